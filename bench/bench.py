@@ -1,25 +1,24 @@
 #!/usr/bin/env python3
-"""Measures the kernel and its program, and prints one table with what is aimed at.
+"""Measures the kernel and its program, and prints one table with the goals.
 
 usage: bench/bench.py [core] [tables] [pulses] [cells] [allocations] [scripts]
 
-With no word it measures all six. It wants the built programs `bench/out/qbench` and
-`crates/qdemo/out/qdemo`: `bench/build qbench` and `(cd crates/qdemo && rt run -- check data)`.
+With no word it measures all six. It needs the built programs `bench/out/qbench` and `crates/qdemo/out/qdemo`:
+`bench/build qbench` and `(cd crates/qdemo && rt run -- check data)`.
 
-  core         nanoseconds a call in rounds of Send, Receive and Reply, with 1, 64 and 1,024
-               connections, and 1 and 1,024 pulses that wait on the channel
+  core         nanoseconds a call in rounds of Send, Receive and Reply, with 1, 64 and 1,024 connections, and 1
+               and 1,024 pulses that are queued on the channel
   tables       nanoseconds an attach and a detach of the oldest with 1 and 1,023 live connections, and
                a create and a destroy of the oldest with 1 and 63 open channels: the least and the
                median of 21 times
-  pulses       nanoseconds a pulse and its receipt by a receive of pulses alone, with no message and
-               with 62 messages of greater priority that wait on the channel
+  pulses       nanoseconds a pulse and its receipt by a receive of only pulses, with no message and with 62
+               messages of greater priority that are queued on the channel
   cells        nanoseconds a completion that goes through a cell, put and taken by one thread in
                turn, and put by one thread and taken by another
   allocations  requests to the allocator by each call, as `valgrind --trace-malloc=yes` counts
                them: the least and the most that one call of the kind made
-  scripts      seconds and peak memory of `qdemo script` on scripts of 1, 2 and 4 MiB: the least
-               time of three runs, and the greatest memory of three others, as `/usr/bin/time`
-               (GNU time) tells it
+  scripts      seconds and peak memory of `qdemo script` on scripts of 1, 2 and 4 MiB: the least time of three
+               runs, and the greatest memory of three others, as `/usr/bin/time` (GNU time) prints it
 """
 
 import os
@@ -101,7 +100,7 @@ def tables():
 
 
 def pulses():
-    """Nanoseconds a pulse and its receipt beneath messages."""
+    """Nanoseconds a pulse and its receipt below queued messages."""
     out = subprocess.run([program(QBENCH), "pulses"], capture_output=True, text=True, check=True)
     lines = [line.split() for line in out.stdout.splitlines()[1:]]
     alone = float(lines[0][1])
@@ -119,7 +118,7 @@ def cells():
 
 
 def requests_of(trace):
-    """How many requests came behind each line that the program printed, and that line's first word."""
+    """The number of requests after each line that the program printed, and the first word of the line."""
     name, count = None, 0
     for line in trace.splitlines():
         if line.startswith("--"):
@@ -177,7 +176,8 @@ KINDS = {
 
 
 def run(path, *before):
-    """The seconds of one run on a script, and what was written on standard error; some words stand before the command."""
+    """The seconds of one run on a script, and its output on standard error. The words `before` come before the
+    command."""
     with open(path, "rb") as script:
         start = time.perf_counter()
         done = subprocess.run(
@@ -192,8 +192,9 @@ def run(path, *before):
 def peak(path):
     """The peak memory in megabytes of one run.
 
-    The system counts the peak of a program from that of the process that starts it, and this one's is greater than what
-    is measured. GNU time is small, starts the program in a process of its own, and tells its peak in KiB.
+    The system counts the peak of the process that starts a program as the program's, and this process has a
+    greater peak than the measured program. GNU time is small, starts the program in a process of its own, and
+    prints its peak in KiB.
     """
     _, told = run(path, GNU_TIME, "-f", "%M")
     return int(told) * 1024 / 1e6

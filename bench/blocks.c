@@ -1,6 +1,6 @@
-// Says which blocks of memory a program takes, for bench/lines.py: loaded before the C library, it hands each request on
-// to it, and writes a line to descriptor 9: at once, or with BLOCKS_KEPT at the program's end, so that no thread comes
-// between because of the write.
+// Reports the blocks of memory that a program takes, for bench/lines.py. It is loaded before the C library,
+// and passes each request to it. It writes a line for each request to descriptor 9, at once or, with
+// BLOCKS_KEPT, at the program's end. Then no other thread runs in between because of a write.
 #define _GNU_SOURCE
 #include <link.h>
 #include <stddef.h>
@@ -13,11 +13,11 @@ void *__libc_realloc(void *, size_t);
 void *__libc_memalign(size_t, size_t);
 void __libc_free(void *);
 
-static char kept[1 << 20]; // of what is written at the end
+static char kept[1 << 20]; // the text that is written at the end
 static size_t kept_length;
 static int keeps;
 
-// One write of the kernel's, without the C library, whose lines would be counted.
+// One write by the kernel, without the C library, whose lines would be counted.
 static void put(const char *text, size_t length) {
     long result;
     if (keeps && length <= sizeof kept - kept_length) {
@@ -38,7 +38,7 @@ static char *hex(char *to, size_t number) {
     return to;
 }
 
-// A block that is taken: its address and its size. One that is given back has the size 0.
+// A block that is taken: its address and its size. A block that is given back has the size 0.
 __attribute__((noinline)) void blocks_tell(void *block, size_t size) {
     char line[36], *end = hex(hex(line, (size_t)block), size);
     end[-1] = '\n';
@@ -82,7 +82,7 @@ void free(void *block) {
     __libc_free(block);
 }
 
-// A module of the program: where its addresses begin, its least and its greatest, and its file.
+// A module of the program: the beginning of its addresses, its least and its greatest address, and its file.
 static int module(struct dl_phdr_info *info, size_t size, void *unused) {
     size_t least = ~(size_t)0, most = 0;
     for (int k = 0; k < info->dlpi_phnum; k++) {
@@ -101,7 +101,7 @@ static int module(struct dl_phdr_info *info, size_t size, void *unused) {
     return 0;
 }
 
-// All blocks lie so many bytes further on as BLOCKS_SHIFT says.
+// All blocks are BLOCKS_SHIFT bytes further on.
 __attribute__((constructor)) static void begin(void) {
     char line[17];
     put("begin\n", 6);

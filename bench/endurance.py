@@ -1,13 +1,14 @@
 #!/usr/bin/env python3
-"""Runs a kernel that keeps no past for longer and longer, and shows that its memory stays as it is.
+"""Runs a kernel that keeps no history for longer and longer, and shows that its memory stays the same.
 
 usage: bench/endurance.py [MILLIONS [CLIENTS SERVERS]]
 
-So many clients and servers (8 and 4) make round trips, in ten runs of which each is longer than the one before, up to
-so many millions (10). The program itself looks that all were answered, and that the sum of the calls of all ports is
-three for each at least. Of each run this prints the round trips, the seconds, the microseconds of a round trip, and the
-peak of the memory in KiB. Before them comes a run of 1,000 round trips. The last line is 'flat' where no run took more
-memory than the first of the ten by a fifth, and else 'not flat', with status 1. It wants GNU time.
+These clients and servers (by default 8 and 4) make round trips in ten runs. Each run is longer than the one
+before, up to this many millions (by default 10). The program itself checks that all messages got a reply, and
+that the calls of all ports are at least three for each round trip. For each run this prints the round trips,
+the seconds, the microseconds of a round trip, and the peak of the memory in KiB. A run of 1,000 round trips
+comes first. The last line is 'flat' if no run took a fifth more memory than the first of the ten. Otherwise it
+is 'not flat', and the status is 1. It needs GNU time.
 """
 
 import os
@@ -19,12 +20,12 @@ TOP = os.path.dirname(os.path.dirname(os.path.abspath(__file__)))
 PROGRAM = os.path.join(TOP, "bench/out/qroundtrips")
 RUNS = 10
 
-# It starts the program: the system counts a program's peak from that of the process that starts it.
+# It starts the program: the system counts the peak of the process that starts a program as the program's.
 GNU_TIME = "/usr/bin/time"
 
 
 def run(clients, servers, rounds):
-    """The seconds and the peak memory of a run of so many rounds of each client."""
+    """The seconds and the peak memory of a run, in which each client makes this many rounds."""
     words = [GNU_TIME, "-f", "%M", PROGRAM, str(clients), str(servers), str(rounds), "unkept"]
     start = time.monotonic()
     ran = subprocess.run(words, capture_output=True, text=True)

@@ -4,16 +4,17 @@
 usage: bench/explore.py [PROGRAM]
        bench/explore.py --count [--write] [--unproved] [--program FILE]
 
-Explores the example `clients.design` with more clients, with and without symmetry; five clients that a timer unblocks
-each; and four philosophers with four forks. Nothing is wrong in these designs. Of each this prints the moments, the
-least, median and greatest processor seconds of five runs, and the peak of the memory in MB. PROGRAM is
-crates/qdemo/out/qdemo if none is given. It wants GNU time.
+Explores the example `clients.design` with more clients, with and without symmetry reduction. Also explores five
+clients, each with a timer that unblocks it, and four philosophers with four forks. Nothing is wrong in these
+designs. For each design this prints the states, the least, median and greatest processor seconds of five runs,
+and the peak of the memory in MB. PROGRAM is crates/qdemo/out/qdemo if none is given. It needs GNU time.
 
-With --count it counts the instructions of smaller designs by callgrind, and compares them with bench/explore.txt: a
-design that takes over 5 % more is a fault, with status 1, and so is one without a kept count. The counts are the same
-on each machine with the same C library. --program takes another program than the proved one, --unproved compares it
-with the counts of an unproved one, and --write keeps the counts of this program anew. Callgrind runs no program with a
-sanitizer, as tools/play makes one. It wants valgrind and strip.
+With --count it counts the instructions of smaller designs by callgrind, and compares them with
+bench/explore.txt. A design that takes over 5 % more is a fault, with status 1, and so is a design without a
+kept count. The counts are the same on each machine with the same C library. --program takes another program
+than the proved one. --unproved compares with the counts of an unproved program. --write keeps the counts of
+this program anew. Callgrind runs no program with a sanitizer, and tools/play makes such a program. --count
+needs valgrind and strip.
 """
 
 import argparse
@@ -29,7 +30,7 @@ CLIENTS = os.path.join(TOP, "crates/qdemo/data/designs/clients.design")
 PROGRAM = os.path.join(TOP, "crates/qdemo/out/qdemo")
 KEPT = os.path.join(TOP, "bench/explore.txt")
 HEAD = "# thousands of instructions by the proved program and by an unproved one, - for none yet (bench/explore.py)\n"
-# The designs of crates/qdemo whose instructions are counted, beside some of the larger ones below.
+# The designs of crates/qdemo whose instructions are counted, with some of the larger designs below.
 COUNTED = ["greedy-mended", "inversion-mended", "lock-mended", "two-servers-mended"]
 TOLERANCE = 1.05
 RUNS = 5
@@ -95,7 +96,7 @@ def clients(count):
 
 
 def philosophers(count):
-    """So many philosophers, each of whom takes the lower one of two forks first, and as many forks."""
+    """This many philosophers, each of them with the lower of two forks first, and as many forks."""
     pairs = [sorted((seat, (seat + 1) % count)) for seat in range(count)]
     return "".join(map(FORK.format, range(count))) + "".join(
         PHILOSOPHER.format(seat, low, high) for seat, (low, high) in enumerate(pairs)
@@ -103,32 +104,32 @@ def philosophers(count):
 
 
 def explore(program, text, symmetry):
-    """The moments, seconds and MB of a search that finds nothing."""
+    """The states, seconds and MB of a search that finds nothing."""
     with tempfile.NamedTemporaryFile("w", suffix=".design") as file:
         file.write(text)
         file.flush()
         words = ["/usr/bin/time", "-f", "%U %M", program, "explore", file.name]
         ran = subprocess.run(words + ([] if symmetry else ["--no-symmetry"]), capture_output=True, text=True)
-    moments = re.search(r": nothing found in .* ([\d,]+) moments", ran.stdout)
-    if not moments:
+    states = re.search(r": nothing found in .* ([\d,]+) states", ran.stdout)
+    if not states:
         sys.exit(f"the program ended with {ran.returncode}: {ran.stdout}{ran.stderr}")
     seconds, kilobytes = ran.stderr.split()[-2:]
-    return moments[1], float(seconds), int(kilobytes) / 1000
+    return states[1], float(seconds), int(kilobytes) / 1000
 
 
 def measure(program):
-    """Prints the moments, seconds and MB of each design."""
+    """Prints the states, seconds and MB of each design."""
     designs = [(f"{n} clients" + ("" if equal else ", no symmetry"), clients(n), equal) for n, equal in SIZES]
     designs += [("5 clients with timers", TIMERS, True), ("4 philosophers", philosophers(4), True)]
-    print(f"{'design':24} {'moments':>9} {'least':>7} {'median':>7} {'most':>7} {'MB':>6}")
+    print(f"{'design':24} {'states':>9} {'least':>7} {'median':>7} {'most':>7} {'MB':>6}")
     for name, text, symmetry in designs:
-        moments, seconds, megabytes = zip(*[explore(program, text, symmetry) for _ in range(RUNS)])
+        states, seconds, megabytes = zip(*[explore(program, text, symmetry) for _ in range(RUNS)])
         spread = f"{min(seconds):>7.2f} {statistics.median(seconds):>7.2f} {max(seconds):>7.2f}"
-        print(f"{name:24} {moments[0]:>9} {spread} {max(megabytes):>6.1f}", flush=True)
+        print(f"{name:24} {states[0]:>9} {spread} {max(megabytes):>6.1f}", flush=True)
 
 
 def counted_designs():
-    """The designs whose instructions are counted: the name and the text of each, and whether copies are alike."""
+    """The designs whose instructions are counted: the name and the text of each, and whether symmetry is reduced."""
     for name in COUNTED:
         with open(os.path.join(TOP, f"crates/qdemo/data/designs/{name}.design")) as text:
             yield name, text.read(), True
@@ -163,7 +164,8 @@ def count(program, text, symmetry):
 
 
 def kept_counts():
-    """The counts of bench/explore.txt by design: those of the proved program and of the unproved one, or `-`."""
+    """The counts of bench/explore.txt by design: the count of the proved program and of the unproved program, or
+    `-`."""
     if not os.path.exists(KEPT):
         return {}
     with open(KEPT) as text:

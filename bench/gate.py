@@ -1,26 +1,29 @@
 #!/usr/bin/env python3
-"""Measures the processor time of the gate, by crate and by what was done for it.
+"""Measures the processor time of the gate, by crate and by kind of work.
 
     bench/gate.py run LOG [WORD..]    runs `rt ci WORD..` in this checkout and writes LOG
     bench/gate.py LOG..               prints the table of one or more logs
     bench/gate.py lanes N LOG..       prints how long their jobs take on N processors
     bench/gate.py functions NAME..    lists the functions of these built libraries, the largest first
 
-Below the table stands the longest chain: crates each of which waits for the proof of the one before.
+Below the table it prints the longest chain of crates. Each of them waits for the proof of the crate before it.
 
-LOG has a line for each process of the toolchain that the run started, with tabs between its words: the crate, the kind,
-the processor seconds, and the seconds from its start to its end. The kinds are `proof`, `tests` (the crate with its
-tests), `seed` (the proof that a crate's edits begin with, and its check at the end), `edits` and `build` (compilers and
-linkers). The last line is that of the whole run, `total`.
+LOG has a line for each process of the toolchain that the run started, with tabs between its words. The words
+are the crate, the kind, the processor seconds, and the seconds from its start to its end. The kinds are
+`proof`, `tests`, `seed`, `edits` and `build`. `tests` is the crate with its tests. `seed` is the proof with
+which a crate's edits begin, and its check at the end. `build` are compilers and linkers. The last line,
+`total`, is about the whole run.
 
-`lanes` goes through the jobs as `rt ci` does: each waits for the proofs that it stands on, edits also for their seed;
-those with the longest chain behind them come first, and edits fill what is left. A job takes its processor seconds.
+`lanes` goes through the jobs as `rt ci` does: each job waits for the proofs of the crates below it, and an edit
+also for its seed. Jobs with the longest chain after them come first, and edits fill the remaining time. A job
+takes its processor seconds.
 
 `functions` prints for each function the bytes of its lowered code, and how many drops and `?` it has. About 2,000 bytes
 are a second of proof. `rt lib` builds a library into `out/rlib` of its crate, where this looks for it.
 
-What an earlier run on this machine passed is taken from there and costs nothing. `bench/gate.py run LOG --anew` proves
-all from nothing. Processes are looked at ten times a second, so a figure is up to a tenth of a second a process short.
+If an earlier run on this machine passed a job, its result is used again and costs nothing.
+`bench/gate.py run LOG --anew` proves everything from the start. Processes are observed ten times a second, so a
+figure is up to a tenth of a second a process short.
 """
 
 import json
@@ -38,7 +41,7 @@ KINDS = ("proof", "tests", "seed", "edits", "build")
 
 
 def children(first):
-    """The processes that this one started, and those started by them, each with its processor time in ticks."""
+    """The processes that this process started, and their own processes, each with its processor time in ticks."""
     parents, times = {}, {}
     for entry in os.scandir("/proc"):
         if not entry.name.isdigit():
@@ -58,7 +61,7 @@ def children(first):
 
 
 def job_of(pid):
-    """The crate and the kind of what a process does, if it is one of the toolchain's."""
+    """The crate and the kind of work of a process, if it is a process of the toolchain."""
     try:
         words = Path(f"/proc/{pid}/cmdline").read_bytes().decode(errors="replace").split("\0")
         folder = os.readlink(f"/proc/{pid}/cwd")
@@ -121,7 +124,8 @@ def longest_chain(spent):
 
 
 def read(logs):
-    """The processor seconds of each crate by kind, those of each of its edits, and the whole by the system and the clock."""
+    """The processor seconds of each crate by kind and of each of its edits, and the whole by the system and by the
+    clock."""
     spent, edits, total, wall = defaultdict(lambda: dict.fromkeys(KINDS, 0.0)), defaultdict(list), 0.0, 0.0
     for log in logs:
         for line in Path(log).read_text().splitlines():
@@ -153,7 +157,7 @@ def jobs_of(spent, edits):
 
 
 def lanes(number, logs):
-    """Prints when the last job ends on so many processors, and how much of their time the jobs fill."""
+    """Prints when the last job ends on this many processors, and how much of their time the jobs fill."""
     jobs = jobs_of(*read(logs)[:2])
     behind = {key: 0.0 for key in jobs}
     for key in reversed(jobs):

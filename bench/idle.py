@@ -3,11 +3,12 @@
 
 usage: bench/idle.py [SECONDS]
 
-A client and a server make round trips, each on a thread of its own. One of the two is stopped in the middle of its work
-(by ptrace, as a debugger does), so the other has nothing to collect. It is given some milliseconds to look, spin and fall
-asleep, and is then watched for so many seconds (5): the figure is the processor time in nanoseconds that it took, as the
-system counts it. Then the first goes on. That is done ten times, for the two in turn. The last line is 'idle' where no
-figure is above 0, and else 'not idle', with status 1. It wants a system that lets it trace its own programs.
+A client and a server make round trips, each on a thread of its own. One of the two is stopped in the middle of
+its work (by ptrace, as a debugger does), so the other has nothing to collect. After some milliseconds to spin
+and fall asleep, the other is watched for this many seconds (by default 5). The figure is the processor time in
+nanoseconds that it took, as the system counts it. Then the first continues. This is done ten times, for the two
+in turn. The last line is 'idle' if no figure is above 0. Otherwise it is 'not idle', and the status is 1. It
+needs a system that lets it trace its own programs.
 """
 
 import ctypes
@@ -40,7 +41,7 @@ def taken(process, thread):
 
 
 def watched(process, stopped, other, seconds):
-    """What the other thread takes while this one is stopped."""
+    """The processor time of the other thread while the first is stopped."""
     trace(SEIZE, stopped)
     trace(INTERRUPT, stopped)
     os.waitpid(stopped, ANY_CHILD)
@@ -55,7 +56,7 @@ def watched(process, stopped, other, seconds):
 
 
 def workers_of(process):
-    """The two threads that make calls: all but the first, which waits for their end."""
+    """The two threads that make calls: all except the first, which waits for their end."""
     for _ in range(1000):
         threads = sorted(int(name) for name in os.listdir(f"/proc/{process}/task"))
         if len(threads) >= 3:

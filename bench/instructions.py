@@ -4,8 +4,9 @@
     bench/instructions.py            compares; a row that takes over 2 % more is a fault, with status 1
     bench/instructions.py --write    writes the file anew
 
-It runs bench/out/qbench (bench/build qbench) under callgrind, whose counts are the same on each machine with the same
-C library. A row is 200,000 rounds of Send, Receive and Reply by two threads, beside so many connections and pulses.
+It runs bench/out/qbench (bench/build qbench) under callgrind, whose counts are the same on each machine with
+the same C library. A row is 200,000 rounds of Send, Receive and Reply by two threads, with this many
+connections and pulses.
 """
 import pathlib
 import re
@@ -23,7 +24,7 @@ TOLERANCE = 1.02
 
 
 def counted():
-    """The instructions a call of each row. The program goes on for long, so it is ended after a part for each row."""
+    """The instructions a call of each row. The program runs for long, so it is ended after a part for each row."""
     with tempfile.TemporaryDirectory() as room:
         out = pathlib.Path(room) / "parts"
         callgrind = ["valgrind", "--tool=callgrind", f"--callgrind-out-file={out}", f"--toggle-collect={ROUNDS}"]

@@ -5,14 +5,15 @@ them with bench/layers.txt.
     bench/layers.py [LAYER..]      compares; a sum that is over 2 % greater is a fault, with status 1
     bench/layers.py --write        writes the file anew
     bench/layers.py --each LAYER   prints each line that the three calls touch, and compares nothing
-    bench/layers.py .. --library FOLDER   takes the libraries of this folder, as BALSAEUCHRE_LIB_DIR has them
+    bench/layers.py .. --library FOLDER   takes the libraries of this folder (as for BALSAEUCHRE_LIB_DIR)
 
-A LAYER is `c` or `rust`. Its bench runs with one client and one server, where one of both waits before each round, so
-that the server receives first, and in a second run so that the client sends first. Counted is what bench/lines.py
-counts, by the same words, in each of the last 32 round trips, with the instructions under the lock (`steps`). But here
-a line moves, too, where the other thread touched it outside the lock, and it doesn't where this thread got it before it
-took the lock. `call` is the stack of the thread that waits. Figures are means, which differ by 0.2 from run to run;
-the machine may have other work, but each thread has to come to its wait within the pause.
+A LAYER is `c` or `rust`. Its bench runs with one client and one server. In a first run the client waits before
+each round, so that the server receives first. In a second run the server waits, so that the client sends first.
+The lines are counted as by bench/lines.py, with the same words, in each of the last 32 round trips. The
+instructions under the lock are counted, too (`steps`). But here a line also moves if the other thread touched
+it outside the lock. It doesn't move if this thread got it before it took the lock. `call` is the stack of the
+thread that waits. Figures are means, which differ by 0.2 from run to run. The machine may have other work, but
+each thread has to begin to wait within the pause.
 """
 
 import collections
@@ -29,12 +30,12 @@ TOP = pathlib.Path(__file__).resolve().parent
 FOREIGN = TOP.parent / "foreign"
 KEPT = TOP / "layers.txt"
 LAYERS = ("c", "rust")
-ROUNDS, LAST, PAUSE, BUFFER = 44, 32, 40, 16 # round trips, those that count, milliseconds, bytes
+ROUNDS, LAST, PAUSE, BUFFER = 44, 32, 40, 16 # round trips, counted round trips, milliseconds, bytes
 ORDERS = [("Receive", "Send", "Reply"), ("Send", "Receive", "Reply")]
 STACK = 1 << 20 # stacks lie further apart
 TOLERANCE = 1.02
 
-# What lies in the kernel of the layer for C, by the first bytes of its parts.
+# The content of the kernel of the layer for C, by the first bytes of its parts.
 PARTS = r"""
 #include "layer.h"
 #include <stdio.h>
@@ -97,13 +98,13 @@ class Reader:
         self.turns, self.threads, self.holders = [], [], {}
 
     def owner(self, size, by_library):
-        """What lies in a new block. The library takes its tables in the first turns, and later only bytes."""
+        """The content of a new block. The library takes its tables in the first turns, and later only bytes."""
         if size == self.size:
             return "layer"
         return ("library" if len(self.turns) < 12 else "bytes") if by_library else "others"
 
     def place(self, address, thread):
-        """What lies at an address, and at which offset in its block."""
+        """The content at an address, and its offset in its block."""
         if abs(address - self.threads[thread]) < STACK:
             return "stack", 0
         found = self.blocks.at(address)
@@ -119,7 +120,7 @@ class Reader:
         return ("stack" if address >> 36 else "allocator"), 0
 
     def thread(self, address, default=None):
-        """The number of the thread on whose stack an address lies; by default of one that is new."""
+        """The number of the thread on whose stack an address lies. By default it is a new thread."""
         for k, known in enumerate(self.threads):
             if abs(address - known) < STACK:
                 return k
@@ -128,14 +129,15 @@ class Reader:
         return len(self.threads) - 1 if default is None else default
 
     def comes(self, address, thread, writes):
-        """Whether another thread wrote this line last, or touched it before this one writes it."""
+        """Whether another thread wrote this line last, or touched it before this thread writes it."""
         line = address // lines.LINE
         before = self.holders.get(line, {thread})
         self.holders[line] = {thread} if writes else before | {thread}
         return before != {thread} and (writes or thread not in before)
 
     def read(self, trace, word):
-        """Goes through the trace. A compare-exchange of the lock's word takes the lock; what next meets it frees it."""
+        """Goes through the trace. A compare-exchange of the lock's word takes the lock, and the next access frees
+        it."""
         end, stored, stack, taken, thread = 0, 0, 0, False, 0
         turn, locking, frees, apart, at = None, False, False, False, 0
         for line in open(trace):
@@ -183,7 +185,7 @@ class Reader:
 
 
 def lock_word(trace, reader):
-    """The address of the lock: where the layer's kernel begins, or what most compare-exchanges of the program meet."""
+    """The address of the lock: the beginning of the layer's kernel, or the address of most compare-exchanges."""
     known = [block for block, size in reader.blocks.requests if size and size == reader.size]
     if known:
         return known[0]
@@ -197,7 +199,7 @@ def lock_word(trace, reader):
 
 
 def measured(program, calls, size, parts):
-    """The last round trips: the turns of each, and what moved in them."""
+    """The last round trips: the turns of each, and the lines that moved in them."""
     pause = PAUSE if calls[0] == "Receive" else -PAUSE
     with tempfile.TemporaryDirectory() as folder:
         room = pathlib.Path(folder)
@@ -230,7 +232,7 @@ def sums(text):
 
 
 def kept(layers):
-    """What the file has of these layers."""
+    """The part of the file about these layers."""
     parts = re.split(r"^## (\w+)\n", KEPT.read_text(), flags=re.M)
     tables = dict(zip(parts[1::2], parts[2::2]))
     return "".join(tables[it] for it in layers)

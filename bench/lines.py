@@ -6,16 +6,18 @@
     bench/lines.py --each      prints each line that the three calls touch, and compares nothing
     bench/lines.py .. PROGRAM  takes another program than bench/out/qroundtrips (bench/build qroundtrips)
 
-One thread has the ports of a client and of a server, and makes 40 round trips in a kernel that keeps no past: in one
-run the server receives before the client sends, and in another after it, so that the message waits in the channel's
-queue. Valgrind tells each load and store, and `blocks.c` each block of memory. Counted are the distinct lines of 64
-bytes in the last round trip, from the store that takes the lock to that which frees it: those that are touched, those
-that are written, and those that move, which the other thread wrote last, or touched before this turn writes them.
-Where blocks begin is chance, so a figure is the mean of four runs, in which all blocks lie 0, 16, 32 and 48 bytes
-further on. The figures are the same each time.
+One thread has the ports of a client and of a server, and makes 40 round trips in a kernel that keeps no
+history. In one run the server receives before the client sends. In another it receives after it, so that the
+message waits in the channel's queue. Valgrind reports each load and store, and `blocks.c` each block of memory.
+The distinct lines of 64 bytes are counted in the last round trip, from the store that takes the lock to the
+store that frees it. It counts touched lines, written lines and moved lines. A moved line was
+written last by the other thread, or the other thread touched it before this turn writes it. The beginning of a
+block is chance, so a figure is the mean of four runs, in which all blocks are 0, 16, 32 and 48 bytes further
+on. The figures are the same each time.
 
-What lies in a block is known from the function that takes it, and in the value under the lock from the offset. A line
-that holds two things counts for each, and once in the sum. What a program only reads, and the stack, don't count.
+The content of a block is known from the function that takes it, and the content of the value under the lock
+from the offset. A line that holds two things counts for each, and once in the sum. The stack doesn't count, and
+neither does memory that a program only reads.
 """
 
 import bisect
@@ -31,13 +33,13 @@ TOP = pathlib.Path(__file__).resolve().parent
 KEPT = TOP / "lines.txt"
 PROGRAM = TOP / "out" / "qroundtrips"
 ROUNDS = 40
-# The calls of a round trip in the order in which they are made, with what the program is told to make them so.
+# The calls of a round trip in their order, and the words with which the program makes them in this order.
 ORDERS = [(("Receive", "Send", "Reply"), []), (("Send", "Receive", "Reply"), ["ahead"])]
 HEAD = "# lines under the lock (bench/lines.py): touched and written by each call and by all, and moved by all\n"
 SHIFTS = (0, 16, 32, 48)
 LINE = 64
 
-# What lies in a block, by the function that takes it and the number of the block among those of the function.
+# The content of a block, by the function that takes it and the number of the block among the function's blocks.
 PLACES = {
     "qshared::parts::Parts::new 6": "cell",
     "qshared::parts::Parts::new 7": "cell",
@@ -47,8 +49,8 @@ PLACES = {
     "qshared::traced::make_at 2": "tables",
     "qshared::traced::make_at 3": "connection",
     "qshared::traced::make_at 4": "tables",
-    "qstate::channel::Channel::enqueue": "queue",
-    "qqueue::lane::Lane::make": "queue",
+    "qkernel_state::channel::Channel::enqueue": "queue",
+    "qqueue::level_heads::Lane::make": "queue",
     "qroundtrips::course::run_unkept 1": "locked",
     "qroundtrips::workers::send_call": "bytes",
     "qroundtrips::workers::receive_call": "bytes",
@@ -56,12 +58,12 @@ PLACES = {
     "qroundtrips::course::run_unkept": "bytes",
 }
 
-# Where the kernel lies in the value under the lock, and its parts there: the words that each call writes, the tables of
-# the index, and the heads of the tables of threads, channels and connections.
+# The place of the kernel in the value under the lock, and its parts there. The parts are the words that each call
+# writes, the tables of the index, and the heads of the tables of threads, channels and connections.
 KERNEL = 0
 PARTS = [(0, "kernel"), (72, "index"), (584, "tables"), (736, "log")]
 
-# What a program only reads, and what only its own thread touches.
+# Memory that a program only reads, and memory that only its own thread touches.
 STILL = {"constants", "stack"}
 
 
@@ -87,7 +89,8 @@ class Program:
 
 
 class Blocks:
-    """The blocks of memory, as `blocks.c` tells them: where the program and its libraries lie, and each request."""
+    """The blocks of memory, as `blocks.c` reports them: the places of the program and its libraries, and each
+    request."""
 
     def __init__(self, text):
         self.modules, self.requests = [], []
@@ -139,7 +142,7 @@ def traced(program, room, order, shift):
 
 
 class Turn:
-    """What one call did under the lock: the places that each line holds, with the offsets, and what it wrote."""
+    """The effect of one call under the lock: the places that each line holds, with the offsets, and the writes."""
 
     def __init__(self):
         self.touched, self.wrote, self.shown = {}, collections.defaultdict(set), collections.defaultdict(set)
@@ -170,14 +173,14 @@ class Reader:
         self.turns, self.turn = [], None
 
     def owner(self):
-        """The program's own function that takes a block, with the number of the block among those of the function."""
+        """The program's own function that takes a block, with the number of the block among the function's blocks."""
         names = (self.program.function(it - self.blocks.base) for it in reversed(self.calls))
         name = next((it for it in names if re.match(r"q\w+::", it) and "++" not in it), "?").partition("::<")[0]
         self.taken[name] += 1
         return f"{name} {self.taken[name]}"
 
     def place(self, address):
-        """What lies at an address, and at which offset in its block."""
+        """The content at an address, and its offset in its block."""
         found = self.blocks.at(address)
         if found:
             owner, offset = found
@@ -191,7 +194,7 @@ class Reader:
         return ("stack" if address >> 36 else "allocator"), 0
 
     def step(self, at, before):
-        """Follows calls and returns. `before` tells of the last instruction where it ends, and whether it stored."""
+        """Follows calls and returns. `before` is the end of the last instruction, and whether it stored."""
         end, stored = before
         if self.calls and at == self.calls[-1]:
             self.calls.pop()
@@ -205,7 +208,8 @@ class Reader:
                 self.blocks.give_back(block)
 
     def read(self, trace, word):
-        """Goes through the trace. A compare-exchange of the lock's word takes the lock; what next meets it frees it."""
+        """Goes through the trace. A compare-exchange of the lock's word takes the lock, and the next access frees
+        it."""
         before, apart, locking, frees = (0, False), False, False, False
         for line in trace:
             kind, (start, _, size) = line[:2], line[3:].partition(",")
@@ -264,7 +268,7 @@ def counts(places, turns, moves):
 
 
 def show(calls, turns, moves):
-    """Prints each line that the calls touch, with what lies there and at which offsets."""
+    """Prints each line that the calls touch, with its content and the offsets."""
     for name, turn, moving in zip(calls, turns, moves):
         print(name)
         for line in sorted(turn.lines()):
@@ -277,7 +281,7 @@ def show(calls, turns, moves):
 
 
 def measured(program, calls, order, shift):
-    """The turns of the last round trip, and what moved in them."""
+    """The turns of the last round trip, and the lines that moved in them."""
     with tempfile.TemporaryDirectory() as room:
         trace, blocks = traced(program.file, pathlib.Path(room), order, shift)
     reader = Reader(program, blocks)
@@ -291,7 +295,7 @@ def measured(program, calls, order, shift):
 
 
 def table(calls, runs):
-    """The means of some runs as text, beneath the names of the calls."""
+    """The means of some runs as text, below the names of the calls."""
     names = "".join(f"{it[:4]:>6}" for it in (*calls, "all"))
     lines = [f"#{'touched':>17}{'written':>24}{'moved':>22}", f"{'#':10}{names}{names}{'all':>6}"]
     touched = (places for turns, _ in runs for turn in turns for places in turn.touched.values())

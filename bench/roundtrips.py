@@ -3,35 +3,37 @@
 
 usage: bench/roundtrips.py [--busy] [--before PROGRAM] [repeats]
 
-In a round trip a client sends 4 bytes with room for 8 in the reply, a server receives them into 16 bytes and replies
-with 4, and the client collects and checks them. The programs:
+In a round trip a client sends 4 bytes with room for 8 in the reply. A server receives them into 16 bytes and
+replies with 4, and the client collects and checks them. The programs:
 
-  kernel      Send, Receive and Reply by the locked kernel, with a thread for each port, and its past in memory
-  unkept      the same by a kernel that keeps no past
+  kernel      Send, Receive and Reply by the locked kernel, with a thread for each port, and its history in
+              memory
+  unkept      the same by a kernel that keeps no history
   calls       the same under QNX's names, by a `Caller` for each thread, with the reply and the next receive in one
-  c           threads of a C program over the static library (foreign/threads), which keeps no past either
+  c           threads of a C program over the static library (foreign/threads), which keeps no history either
   c 64 KiB    the same with a receive buffer of 64 KiB
-  qnx         a QNX program as it is, over QNX's front for the same threads (foreign/qnx)
+  qnx         an unchanged QNX program, over QNX's front for the same threads (foreign/qnx)
   rendezvous  a channel of Rust's `std` without room, with a reply channel for each client
   condvar     a mutex over a queue, with condition variables
   crossbeam   a channel of crossbeam without room, with a reply channel for each client
-  rust        the library under the Rust package's ports, which keep no past
+  rust        the library under the Rust package's ports, which keep no history
   rust 64 KiB the same with a receive buffer of 64 KiB
 
-The kernel also makes them in one thread that has the port of a client and that of a server and never waits: the row
-`alone`, which shows what its three calls and two looks cost by themselves.
+The kernel also makes them in one thread, which has the ports of a client and of a server and never waits. This
+is the row `alone`, which shows the cost of its three calls and two polls by themselves.
 
-It wants them built, `bench/out/qroundtrips` and `bench/peers/out/peers`, and the static library, over which it builds
-the C program itself. One that isn't is left out, and it says by which command it is built.
+It needs the built programs `bench/out/qroundtrips` and `bench/peers/out/peers`, and the static library, over
+which it builds the C program itself. A program that isn't built is left out, with a message about the command
+that builds it.
 
-Each repeat (7, if no other number is given) runs all programs in turn, case by case, so that what else runs on the
-machine meets all of them. `--before PROGRAM` runs an older `qroundtrips` too, as `kernel before` and `unkept before`.
-`--busy` lets a process that computes run on each core meanwhile, makes fewer round trips, and leaves out the peers that
-yield their core and so wait for it in milliseconds, as well as the row `alone`. The figures: microseconds a round
-trip, which is the time until all clients have ended by the number of all round trips, least and median; and the
-median of the sleeps a round trip, which are the voluntary context switches of all threads of the program, as the
-system tells them. At the end stands how many times a peer's median the kernel's is, and how many times another's that
-of the calls, of C and of Rust, with what is aimed at.
+Each repeat (by default 7) runs all programs in turn, case by case, so that other work of the machine affects
+all of them. `--before PROGRAM` runs an older `qroundtrips` too, as `kernel before` and `unkept before`.
+`--busy` lets a process that computes run on each core meanwhile, and makes fewer round trips. It leaves out the
+row `alone`, and the peers that yield their core and so wait for it in milliseconds. The figures are
+microseconds a round trip, least and median, and the median of the sleeps a round trip. A round trip takes the
+time until all clients have ended, divided by the number of all round trips. The sleeps are the voluntary
+context switches of all threads of the program, as the system counts them. At the end come the ratios of the
+kernel's median to each peer's, and of the medians of the calls, of C and of Rust to others, with their goals.
 """
 
 import argparse
@@ -64,7 +66,7 @@ PROGRAMS = {
     "rust": [RUST],
     "rust 64 KiB": [RUST],
 }
-# What follows the numbers in a program's words.
+# The words after the numbers of a program's command.
 LAST_WORDS = {"unkept": ["unkept"], "calls": ["calls", "unkept"], "unkept before": ["unkept"]}
 LAST_WORDS |= {"c 64 KiB": ["65536"], "rust 64 KiB": ["65536"]}
 BUILT_BY = {
@@ -75,10 +77,10 @@ BUILT_BY = {
     QNX: "the same",
 }
 
-# Clients and servers. Each run makes as many round trips, which takes about a second at most, and stays far below the
-# 1,048,576 events that a kernel can keep: a round trip is three.
+# Clients and servers. Each run makes the same number of round trips. It takes about a second at most, and stays far
+# below the 1,048,576 events that a kernel can keep. A round trip is three events.
 CASES = ((1, 1), (2, 1), (8, 4), (32, 16))
-# One thread in place of two, by the kernel alone, and at most so many microseconds where no past is kept.
+# One thread in place of two, only by the kernel, and its goal in microseconds if no history is kept.
 ALONE = ("alone",)
 OWN = ("kernel", "unkept")
 ALONE_AIM = 0.4
@@ -89,7 +91,7 @@ BUSY_PEERS = ("condvar",)
 REPEATS = 7
 SECONDS = 120
 
-# At most so many times a peer's median, in all cases or in some.
+# The greatest ratio to a peer's median that is a goal, in all cases or in some.
 AIMS = {
     "rendezvous": {case: 2 / 3 for case in CASES},
     "condvar": {case: 2 / 3 for case in CASES},
@@ -97,7 +99,7 @@ AIMS = {
 }
 BUSY_AIMS = {"condvar": {case: 3 for case in CASES}}
 
-# Other pairs: what is compared with what, and at most so many times, on a quiet and on a busy machine.
+# Other pairs, and the greatest ratio of the first median to the second, on a quiet and on a busy machine.
 PAIR_AIMS = (
     ("calls", "unkept", 1.05, None),
     ("c", "unkept", 1.2, None),
@@ -111,7 +113,7 @@ PAIR_AIMS = (
 
 
 def build_c():
-    """Builds the C programs, where the library is."""
+    """Builds the C programs, if the library is built."""
     if not os.path.exists(LIBRARY):
         return
     doc = subprocess.run(["rt", "doc"], capture_output=True, text=True, check=True).stdout.strip()
@@ -132,7 +134,7 @@ def build_c():
 
 
 def built(busy):
-    """The programs that are built. Of the others it says how they are."""
+    """The programs that are built. For the others it prints how they are built."""
     build_c()
     for path, command in BUILT_BY.items():
         if not os.access(path, os.X_OK):
@@ -191,7 +193,7 @@ def rows(programs, runs):
 
 
 def ratios(programs, runs, aims):
-    """How many times each peer's median the kernel's is."""
+    """The ratio of the kernel's median to each peer's."""
 
     def median(case, name):
         return statistics.median(micros for micros, _ in runs[case, name])
@@ -216,7 +218,7 @@ def ratios(programs, runs, aims):
 
 
 def ratios_of_pairs(programs, runs, busy):
-    """How many times another program's median a program's is."""
+    """The ratios of the medians of pairs of programs."""
     print(f"\n{'clients-servers':<18}{'of':<15}{'to':<15}{'times':>10}{'aim':>10}")
     for case in CASES:
         for name, other, quiet, loaded in PAIR_AIMS:
@@ -229,7 +231,7 @@ def ratios_of_pairs(programs, runs, busy):
 
 
 def read_words():
-    """What is asked for."""
+    """The options of the command line."""
     parser = argparse.ArgumentParser(usage=__doc__.split("usage: ")[1].splitlines()[0])
     parser.add_argument("--busy", action="store_true")
     parser.add_argument("--before")

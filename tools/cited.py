@@ -1,4 +1,5 @@
-"""Which definitions of the `specs` folders a definition cites, and those again: what a reader of it must believe."""
+"""The definitions of the `specs` folders that a definition cites, and the definitions that these cite: a reader of
+the definition must believe them."""
 
 import re
 from pathlib import Path
@@ -11,7 +12,7 @@ NAMES = re.compile(r"(?<![\w.'◌])([A-Za-z_][\w']*)((?:\.[A-Za-z_][\w']*)*)")
 
 
 class File:
-    """One file of definitions: the text of each, what names it brings in, and what modules it has short names for."""
+    """One file of definitions: the text of each, the names that it brings in, and its short names for modules."""
 
     def __init__(self, crate, path, specs):
         self.crate, self.path = crate, path
@@ -63,7 +64,8 @@ class Library:
                 self.files[f"Rattle.{file.crate}.specs.{file.module}"] = file
 
     def found(self, module, name):
-        """The file and the name under which a module's name is defined; a type of the code as its module and None."""
+        """The file and the name under which a module's name is defined. For a type of the code it is its module
+        and None."""
         if ".declared." in module:
             return re.sub(r"\.TheVariants$", "", module), None
         file = self.files.get(module)
@@ -80,7 +82,7 @@ class Library:
         return None
 
     def named(self, file, head, rest):
-        """What a word of the file's text is."""
+        """The meaning of a word in the file's text."""
         if head in file.texts:
             return file, head
         if head in file.names:
@@ -94,7 +96,8 @@ class Library:
         return None
 
     def cited_by(self, file, name):
-        """What the definition cites. A name that it binds counts as the definition of that name, if there is one."""
+        """The definitions that the definition cites. A name that it binds counts as the definition of that name,
+        if there is one."""
         for head, tail in NAMES.findall("\n".join([file.sections[name], *file.texts[name]])):
             what = self.named(file, head, tail.split(".")[1:])
             if what and what != (file, name):

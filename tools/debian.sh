@@ -2,12 +2,12 @@
 # shellcheck shell=bash disable=SC2154
 maintainer='Balsaeuchre maintainers <maintainers@users.noreply.balsaeuchre.example>'
 
-# The newest symbols of the C library that the programs want.
+# The newest symbols of the C library that the programs need.
 wanted_libc() {
     programs "$1" | xargs -d '\n' objdump -T | grep -o 'GLIBC_[0-9.]*' | sed 's/GLIBC_//' | sort -Vu | tail -n 1
 }
 
-# The kibibytes of all below a folder, each file rounded up.
+# The kibibytes of everything below a folder, each file rounded up.
 kibibytes() {
     find "$1" -printf '%y %s\n' | awk '{size += $1 == "f" ? int(($2 + 1023) / 1024) : 1} END {print size}'
 }
@@ -36,7 +36,7 @@ ${unproved:+ .
 END
 }
 
-# The lines of the licences that name the holders of the libraries' copyright.
+# The lines of the licences with the names of the libraries' copyright holders.
 holders() {
     local name
     for name in $(libraries); do

@@ -1,4 +1,4 @@
-"""The public items of the Rattle library, as its sources have them: declarations, words, contracts and methods."""
+"""The public items of the Rattle library in its sources: declarations, words, contracts and methods."""
 
 import re
 from dataclasses import dataclass, field
@@ -18,7 +18,7 @@ PLAIN_USE = re.compile(r"^(?:pub )?use ([\w:]+?)(?:::\{(.*?)\}| as (\w+))?;", re
 
 @dataclass
 class Item:
-    """An item or a method: its source, its words, and for a type what its impl blocks have."""
+    """An item or a method: its source, its words, and for a type the contents of its impl blocks."""
 
     kind: str
     name: str
@@ -30,7 +30,7 @@ class Item:
     contract: str = ""
     methods: list = field(default_factory=list)
     traits: list = field(default_factory=list)
-    within: str = ""  # of a method, the head of its impl block
+    within: str = ""  # for a method, the head of its impl block
 
 
 def file_of(path):
@@ -147,7 +147,7 @@ def items_of(file):
 
 
 def without_brackets(text):
-    """The text without what stands between angle brackets."""
+    """The text without the parts between angle brackets."""
     out, depth = "", 0
     for place, letter in enumerate(text):
         depth += letter == "<"
@@ -192,7 +192,7 @@ def add_methods(item):
 
 @cache
 def names_in(file, handed_on=False):
-    """The full path of each name that a file declares or brings in, or of those that it hands on."""
+    """The full path of each name that a file declares or imports, or, with `handed_on`, that it exports."""
     module = module_of(file)
     names = {name: f"{module}::{name}" for name in items_of(file)}
     for found in PLAIN_USE.finditer(file.read_text()):
@@ -209,13 +209,14 @@ def names_in(file, handed_on=False):
 
 
 def knows(file, item):
-    """Whether a file's name for an item is that item: it imports it, or lies below the module that declares it."""
+    """Whether a file's name for an item means that item: the file imports the item, or is below the module that
+    declares it."""
     path = f"{item.origin}::{item.name}"
     return names_in(file).get(item.name) == path or module_of(file).startswith(item.origin + "::")
 
 
 def resolved(path):
-    """The items of a path: one, or for a module all that it declares."""
+    """The items of a path: one, or for a module all items that it declares."""
     module, _, name = path.rpartition("::")
     file = file_of(module)
     if file and name in items_of(file):
@@ -243,7 +244,7 @@ def modules():
 
 @cache
 def cited_names(file):
-    """The definitions that a file's contracts may name: each name with its module of definitions."""
+    """The definitions that a file's contracts may name: each name with the module of its definition."""
     names = {}
     for found in GHOST_USE.finditer(file.read_text()):
         for part in (found[2] or "").split(","):

@@ -1,9 +1,9 @@
-//! What the kernel's round trips are measured against: the same rounds in plain Rust.
+//! The rounds of the kernel's round trips in plain Rust, with which the kernel is compared.
 //!
 //! usage: peers PEER CLIENTS SERVERS ROUNDS
 //!
-//! Each client makes so many rounds: it sends 4 bytes in a buffer with room for 8, a server receives them into 16 bytes
-//! and replies with 4, and the client checks them. PEER is one of
+//! Each client makes ROUNDS rounds. It sends 4 bytes in a buffer with room for 8, a server receives them into
+//! 16 bytes and replies with 4, and the client checks them. PEER is one of
 //!
 //!   rendezvous  a channel of `std` without room, one receiver for all servers under a mutex, and a reply channel for
 //!               each client
@@ -11,7 +11,8 @@
 //!               the servers and one for each client
 //!   crossbeam   a channel of `crossbeam_channel` without room, and a reply channel for each client
 //!
-//! It prints the microseconds of a round trip: the time until all clients have ended, by the number of all rounds.
+//! It prints the microseconds of a round trip: the time until all clients have ended, divided by the number
+//! of all rounds.
 
 use std::collections::VecDeque;
 use std::env;
@@ -21,7 +22,7 @@ use std::sync::{Condvar, Mutex};
 use std::thread;
 use std::time::{Duration, Instant};
 
-/// How many threads there are of each kind, and how many rounds each client makes.
+/// The numbers of clients and servers, and the number of rounds that each client makes.
 #[derive(Clone, Copy)]
 struct Case {
     clients: usize,
@@ -29,13 +30,14 @@ struct Case {
     rounds: u32,
 }
 
-/// What a client sends. The reply comes in the same buffer.
+/// A client's request. The reply comes in the same buffer.
 struct Request {
     client: usize,
     buffer: Vec<u8>,
 }
 
-/// The rounds of one client, each by `exchange`, which takes the request's buffer and gives the reply's.
+/// The rounds of one client. Each round is made by `exchange`, which takes the request's buffer and returns
+/// the reply's.
 fn client(number: usize, rounds: u32, mut exchange: impl FnMut(Vec<u8>) -> Vec<u8>) {
     for round in 0..rounds {
         let bytes = round.to_be_bytes();
@@ -47,7 +49,8 @@ fn client(number: usize, rounds: u32, mut exchange: impl FnMut(Vec<u8>) -> Vec<u
     }
 }
 
-/// What a server does with a request: it receives into 16 bytes, and puts the reply of 4 in place of the message.
+/// The work of a server for a request: it receives into 16 bytes, and puts the reply of 4 in place of the
+/// message.
 fn answer(buffer: &mut Vec<u8>) {
     let mut received = [0; 16];
     let length = buffer.len().min(received.len());
@@ -93,7 +96,7 @@ fn rendezvous(case: Case) -> Duration {
     })
 }
 
-/// What lies under the mutex.
+/// The data under the mutex.
 struct Desk {
     requests: VecDeque<Request>,
     replies: Vec<Option<Vec<u8>>>,

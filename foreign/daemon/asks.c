@@ -1,4 +1,4 @@
-/* What the front asks of the daemon beside the layer's calls. Tested, not proved. */
+/* The front's requests to the daemon, in addition to the layer's calls. Tested, not proved. */
 
 bool neutrino_remote(void) { return is_remote; }
 
@@ -17,15 +17,19 @@ static balsaeuchre_request pulse_of(int priority, int code) {
     return (balsaeuchre_request){.kind = BALSAEUCHRE_PULSE, .priority = (uint8_t)priority, .pulse_code = (int8_t)code};
 }
 
-/* Has the clock of the program that an rcvid is from send a pulse over one of its connections; 0 is this program. */
+/* Asks for a pulse by the clock of the program whose message has this rcvid, over one of that program's
+ * connections. rcvid 0: this program. */
 static long ask_for_pulse(int rcvid, int coid, balsaeuchre_request pulse, union sigval value, unsigned flags) {
-    struct wire_ask ask = {.op = OP_EVENT, .number = rcvid, .request = pulse, .flags = flags,
+    struct wire_ask ask = {.op = OP_EVENT,
+                           .number = rcvid,
+                           .request = pulse,
+                           .flags = flags,
                            .value = (uint64_t)(intptr_t)value.sival_ptr};
     ask.request.id = (uint64_t)(uint32_t)coid;
     return ask_plainly(&ask);
 }
 
-/* The front's own thread has no seat: the program's clock sends its pulses. */
+/* The front's own thread has no seat, so the program's clock sends its pulses. */
 int neutrino_remote_pulse(int coid, int priority, int code, union sigval value) {
     struct call c = {.request = pulse_of(priority, code), .number = coid, .own_priority = priority == -1};
     if (self) return (int)call_with(&c, (uint64_t)(intptr_t)value.sival_ptr, 0, 0);
@@ -57,7 +61,7 @@ int neutrino_remote_client(int scoid, struct wire_client *client) {
     return (int)ask_daemon(&ask, (struct iovec){NULL, 0}, &answer, (struct iovec){client, sizeof *client});
 }
 
-/* Asks by the program's socket, as a box brings no file. */
+/* Asks by the program's socket, because an answer in a box can't bring a file. */
 int neutrino_remote_sender(int rcvid, pid_t *pid) {
     int cancel, ignored, found[2] = {-1, -1};
     struct iovec none = {NULL, 0};
@@ -87,7 +91,8 @@ int neutrino_remote_unblock(int rcvid) { return (int)ask_about(OP_UNBLOCK, rcvid
 
 int neutrino_remote_show(int fd) {
     enum { MOST_TEXT = 16384 + 64 * WIRE_NAME };
-    struct iovec none = {NULL, 0}, text = {malloc(MOST_TEXT), MOST_TEXT}; /* too much for the stacks of some threads */
+    /* The text is too long for the stacks of some threads. */
+    struct iovec none = {NULL, 0}, text = {malloc(MOST_TEXT), MOST_TEXT};
     struct wire_ask ask = {.op = OP_SHOW};
     struct wire_answer answer;
     if (!text.iov_base) return fail(ENOMEM);

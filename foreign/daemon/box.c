@@ -1,18 +1,18 @@
 /* The calling thread's socket, box and bell, by which it asks the daemon. Tested, not proved. */
 #include <sys/mman.h>
 
-/* A thread looks at its box for a while before it sleeps. A call that waits for another program does so only with three
- * processors, one for each and one for the daemon. */
-enum { LOOKS = 100, LONG_LOOKS = 500, LONG = 100000000 }; /* the last: nanoseconds, after which a wait is a long one */
+/* A thread spins at its box before it sleeps. A call that waits for another program spins only with three
+ * processors: one for each program and one for the daemon. LONG: nanoseconds after which a wait is long. */
+enum { LOOKS = 100, LONG_LOOKS = 500, LONG = 100000000 };
 
 static _Thread_local struct {
     int socket, bell, processors;
     bool is_lost; /* the daemon has ended */
-    int priority; /* that was set last */
+    int priority; /* as the thread set it last */
     struct wire_box *box;
 } own = {-1, -1, 1, false, 0, NULL};
 
-/* Wakes the daemon. For signal handlers, too. */
+/* Wakes the daemon. Signal handlers may call it, too. */
 static void ring(void) {
     const uint64_t once = 1;
     int error = errno;
@@ -21,21 +21,22 @@ static void ring(void) {
 
 static bool has_answer(void) { return atomic_load_explicit(&own.box->word, memory_order_acquire) == WIRE_ANSWERED; }
 
-/* How often a thread looks for the answer before it sleeps. */
+/* How many times a thread looks for the answer before it sleeps. */
 static int looks_for(const struct wire_ask *ask) {
     int kind = ask->op == OP_CALL ? ask->request.kind : 0;
     bool waits = kind == BALSAEUCHRE_SEND || kind == BALSAEUCHRE_RECEIVE || kind == BALSAEUCHRE_RECEIVE_PULSE;
     return own.processors > (waits ? 2 : 1) ? waits ? LONG_LOOKS : LOOKS : 0;
 }
 
-/* Sleeps until the daemon has sent the byte that follows the answer, or has ended. */
+/* Sleeps until the daemon has sent the byte that follows the answer, or until the daemon has ended. */
 static void sleep_at_socket(void) {
     char byte;
     while (recv(own.socket, &byte, 1, 0) == -1 && errno == EINTR) continue;
 }
 
-/* Waits for the answer. A daemon that is killed doesn't change the word, but the host closes its sockets. So a thread
- * that has slept at the word for a while sleeps at its socket. Returns false if the daemon is gone. */
+/* Waits for the answer. A daemon that is killed doesn't change the word, but the host closes its
+ * sockets. So a thread that has slept at the word for a while then sleeps at its socket. Returns
+ * false if the daemon is gone. */
 static bool wait_for_answer(int looks) {
     uint32_t open = WIRE_OPEN, asleep = WIRE_ASLEEP;
     for (; looks && !has_answer(); looks--) pause_briefly();
@@ -51,7 +52,8 @@ static bool wait_for_answer(int looks) {
     return has_answer();
 }
 
-/* Asks the daemon by the box, with the bytes of two buffers, and waits. Returns and fails as exchange. */
+/* Puts a request into the box, with the bytes of two buffers, and waits for the answer. Returns
+ * and fails as exchange does. */
 static long ask_by_box(const struct wire_ask *ask, const struct iovec sent[2], struct wire_answer *answer,
                        struct iovec room) {
     struct wire_box *box = own.box;

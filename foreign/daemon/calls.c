@@ -1,19 +1,31 @@
 /* The calls of programs' threads. Tested, not proved. */
 
-/* The table that the number of a call is of; or TABLES for a call that no program makes. */
+/* The table of the id that a call names, or NO_TABLE if it names none. TABLES: programs don't make this
+ * call. */
 static enum table table_of(uint8_t kind) {
-    static const uint8_t tables[] = {
-        [0] = TABLES, [BALSAEUCHRE_SHUTDOWN] = TABLES, [BALSAEUCHRE_CHANNEL_CREATE] = NO_TABLE,
-        [BALSAEUCHRE_PRIORITY_SET] = NO_TABLE, [BALSAEUCHRE_STATE] = NO_TABLE, [BALSAEUCHRE_UNBLOCK] = NO_TABLE,
-        [BALSAEUCHRE_CONNECT_ATTACH] = CHANNELS, [BALSAEUCHRE_RECEIVE] = CHANNELS,
-        [BALSAEUCHRE_RECEIVE_PULSE] = CHANNELS, [BALSAEUCHRE_CHANNEL_DESTROY] = CHANNELS,
-        [BALSAEUCHRE_SEND] = CONNECTIONS, [BALSAEUCHRE_PULSE] = CONNECTIONS,
-        [BALSAEUCHRE_CONNECT_DETACH] = CONNECTIONS, [BALSAEUCHRE_REPLY] = MESSAGES, [BALSAEUCHRE_ERROR] = MESSAGES,
-        [BALSAEUCHRE_READ] = MESSAGES, [BALSAEUCHRE_WRITE] = MESSAGES, [BALSAEUCHRE_INFO] = MESSAGES};
+    static const uint8_t tables[] = {[0] = TABLES,
+                                     [BALSAEUCHRE_SHUTDOWN] = TABLES,
+                                     [BALSAEUCHRE_CHANNEL_CREATE] = NO_TABLE,
+                                     [BALSAEUCHRE_PRIORITY_SET] = NO_TABLE,
+                                     [BALSAEUCHRE_STATE] = NO_TABLE,
+                                     [BALSAEUCHRE_UNBLOCK] = NO_TABLE,
+                                     [BALSAEUCHRE_CONNECT_ATTACH] = CHANNELS,
+                                     [BALSAEUCHRE_RECEIVE] = CHANNELS,
+                                     [BALSAEUCHRE_RECEIVE_PULSE] = CHANNELS,
+                                     [BALSAEUCHRE_CHANNEL_DESTROY] = CHANNELS,
+                                     [BALSAEUCHRE_SEND] = CONNECTIONS,
+                                     [BALSAEUCHRE_PULSE] = CONNECTIONS,
+                                     [BALSAEUCHRE_CONNECT_DETACH] = CONNECTIONS,
+                                     [BALSAEUCHRE_REPLY] = MESSAGES,
+                                     [BALSAEUCHRE_ERROR] = MESSAGES,
+                                     [BALSAEUCHRE_READ] = MESSAGES,
+                                     [BALSAEUCHRE_WRITE] = MESSAGES,
+                                     [BALSAEUCHRE_INFO] = MESSAGES};
     return kind < sizeof tables ? tables[kind] : TABLES;
 }
 
-/* A receive id has its sender's place below the layer's number. So it leads there after the answer, too. */
+/* The low bits of an rcvid are its sender's place, and the others are the layer's number. So an rcvid leads
+ * to the sender's place even after the reply. */
 static int rcvid_of(int number, int process) { return number ? number << SLOT_BITS | process : 0; }
 
 static int number_of_rcvid(int rcvid) { return rcvid > 0 ? rcvid >> SLOT_BITS : 0; }
@@ -26,7 +38,7 @@ static struct place *sender_of(int number) {
     return NULL;
 }
 
-/* The process of a host's pid, or 0. */
+/* The process whose program has this pid of the host, or 0. */
 static int process_of(pid_t pid) {
     for (int at = 1; at <= limits.processes; at++) {
         if (pid && processes[at].peer.pid == pid && !processes[at].ended_as) return at;
@@ -34,7 +46,7 @@ static int process_of(pid_t pid) {
     return 0;
 }
 
-/* The client of a thread of a process, or null. */
+/* The client of a process's thread with this tid, or null. */
 static struct client *thread_of(int process, int tid) {
     for (int at = 0; at < PLACES; at++) {
         if (client_of[at] && client_of[at]->process == process && client_of[at]->tid == tid) return client_of[at];
@@ -44,22 +56,30 @@ static struct client *thread_of(int process, int tid) {
 
 /* ---- answers */
 
-/* The bytes of its room that a call which has ended answers with. */
+/* The number of bytes of its room that a completed call sends back. */
 static size_t length_of_answer(const struct client *c) {
     const struct place *p = c->place;
     size_t room = c->call.room_len, count = 0;
     switch (c->call.request.kind) {
-    case BALSAEUCHRE_SEND: return c->wrote ? room : c->answer.count;
-    case BALSAEUCHRE_RECEIVE: count = p->result ? (size_t)c->answer.info.msglen : sizeof(struct _pulse); break;
-    case BALSAEUCHRE_RECEIVE_PULSE: count = sizeof(struct _pulse); break;
-    case BALSAEUCHRE_READ: count = (size_t)p->result; break;
-    default: break;
+    case BALSAEUCHRE_SEND:
+        return c->wrote ? room : c->answer.count;
+    case BALSAEUCHRE_RECEIVE:
+        count = p->result ? (size_t)c->answer.info.msglen : sizeof(struct _pulse);
+        break;
+    case BALSAEUCHRE_RECEIVE_PULSE:
+        count = sizeof(struct _pulse);
+        break;
+    case BALSAEUCHRE_READ:
+        count = (size_t)p->result;
+        break;
+    default:
+        break;
     }
     if (p->error) return 0;
     return count < room ? count : room;
 }
 
-/* Puts the host's numbers where the layer has the kernel's. */
+/* Replaces the kernel's numbers by the host's. */
 static void complete_info(struct _msg_info *info) {
     const struct client *sender = info->tid ? client_of[k->place_of[info->tid]] : NULL;
     info->scoid = processes[info->pid].scoid;
@@ -68,7 +88,7 @@ static void complete_info(struct _msg_info *info) {
     if (info->coid) info->coid = coid_at(place_in(&k->tables[CONNECTIONS], info->coid));
 }
 
-/* A receive got a pulse that the kernel made: its note says who it is from. */
+/* A receive got a pulse that the kernel made. The pulse's note says from which program it is. */
 static void complete_kernel_pulse(struct client *c, const balsaeuchre_ending *row) {
     bool is_unblock = row->what == BALSAEUCHRE_WHAT_UNBLOCK;
     struct _pulse pulse;
@@ -82,7 +102,7 @@ static void complete_kernel_pulse(struct client *c, const balsaeuchre_ending *ro
     if (length) memcpy(c->call.room, &pulse, length);
 }
 
-/* What the ending of a call says besides its result. */
+/* Fills in the fields how, count, priority and info of an answer, from the call's completion. */
 static void complete_answer(struct client *c) {
     struct wire_answer *a = &c->answer;
     for (size_t at = 0; at < k->event.done.endings; at++) {
@@ -100,7 +120,7 @@ static void complete_answer(struct client *c) {
     if (a->info.pid) complete_info(&a->info);
 }
 
-/* A call has ended: its thread gets the result. */
+/* Sends the answer of a completed call to its thread. */
 static void end_call(struct client *c) {
     struct place *p = c->place;
     int kind = c->call.request.kind;
@@ -114,7 +134,7 @@ static void end_call(struct client *c) {
     c->wrote = false;
 }
 
-/* The layer tells of the threads whose calls have ended. */
+/* The layer reports the threads whose calls are completed. They get their answers. */
 static uint64_t tell(neutrino *of, uint64_t ended) {
     (void)of;
     for (; ended; ended &= ended - 1) {
@@ -126,13 +146,14 @@ static uint64_t tell(neutrino *of, uint64_t ended) {
 
 /* ---- calls */
 
-/* Whether the message of a thread is held on a channel that is told before the call ends. */
+/* Whether a thread's message is held on a channel with the flag UNBLOCK, whose server gets a
+ * pulse before the call ends. */
 static bool is_guarded(const struct place *p) {
     bool is_held = p->call && p->kind == BALSAEUCHRE_SEND && p->rcvid;
     return is_held && flags_of[place_in(&k->tables[CHANNELS], p->chid)] & BALSAEUCHRE_TELL_UNBLOCK;
 }
 
-/* Before an Unblock: notes the pulse that it makes, if it makes one. Returns an errno or 0. */
+/* Before an Unblock: makes the note of the pulse, if the Unblock makes one. Returns an errno or 0. */
 static int note_unblock_pulse(const struct place *p) {
     if (!is_guarded(p) || p->asked) return 0;
     if (!has_room(p->chid)) return EAGAIN;
@@ -141,7 +162,7 @@ static int note_unblock_pulse(const struct place *p) {
     return 0;
 }
 
-/* After it: the kernel may have refused the pulse. */
+/* After an Unblock: removes the note if the kernel has refused the pulse. */
 static void drop_unblock_pulse(const struct place *p) {
     if (is_guarded(p) && !p->asked) take_kernel_pulse(p->chid, _PULSE_CODE_UNBLOCK, id_of(k, MESSAGES, p->rcvid, 0));
 }
@@ -155,7 +176,8 @@ static void interrupt(struct client *c, enum woken woken) {
     drop_unblock_pulse(c->place);
 }
 
-/* Takes the note of a pulse, and looks whether the process may have one channel or connection more. */
+/* Prepares a call: checks the process's limits, makes the note of a pulse, and replaces the program's numbers
+ * by the layer's. Returns an errno or 0. */
 static int prepare_call(struct client *c) {
     const struct process *process = &processes[c->process];
     struct call *call = &c->call;
@@ -184,7 +206,7 @@ static int prepare_call(struct client *c) {
     return note == -1 ? EAGAIN : 0;
 }
 
-/* What the daemon does itself, after the kernel has made a call and before its answer. */
+/* Updates the daemon's own tables after the kernel has made a call, before the answer. */
 static void finish_call(struct client *c) {
     struct process *process = &processes[c->process];
     struct place *p = c->place;
@@ -205,7 +227,7 @@ static void finish_call(struct client *c) {
     if (sender && client_of[sender - k->places]) client_of[sender - k->places]->wrote = true;
 }
 
-/* A new channel that can't be told of ends is destroyed. */
+/* Prepares a new channel for the pulses about ends that its flags ask for. Destroys it if that fails. */
 static void finish_channel(struct client *c) {
     struct place *p = c->place;
     int chid = (int)p->result;
@@ -218,7 +240,7 @@ static void finish_channel(struct client *c) {
     processes[c->process].channels--;
 }
 
-/* Ends a call that is open still where that is wanted already. */
+/* Ends a call that is still open if its thread has given it up, is cancelled, or has timed out. */
 static void end_at_once(struct client *c) {
     struct place *p = c->place;
     bool gives_up = c->given_up && c->given_up == c->ask.call;
@@ -229,13 +251,21 @@ static void end_at_once(struct client *c) {
 static void make_call(struct client *c) {
     const struct wire_ask *a = &c->ask;
     uint64_t ended = 0, until = now() + a->time;
+    if (until < a->time) until = UINT64_MAX;
     c->answer = (struct wire_answer){.error = 0};
     c->wrote = false;
-    c->call = (struct call){.request = a->request, .table = table_of(a->request.kind), .number = a->number,
-                            .own_priority = a->flags & WIRE_OWN_PRIORITY, .states = a->states,
-                            .until = !a->states ? 0 : until < a->time ? UINT64_MAX : until,
-                            .sent = c->bytes, .sent_len = a->sent_len, .room = c->bytes + a->sent_len,
-                            .room_len = a->room_len, .info = &c->answer.info, .cancels = a->flags & WIRE_CANCELS};
+    c->call = (struct call){.request = a->request,
+                            .table = table_of(a->request.kind),
+                            .number = a->number,
+                            .own_priority = a->flags & WIRE_OWN_PRIORITY,
+                            .states = a->states,
+                            .until = a->states ? until : 0,
+                            .sent = c->bytes,
+                            .sent_len = a->sent_len,
+                            .room = c->bytes + a->sent_len,
+                            .room_len = a->room_len,
+                            .info = &c->answer.info,
+                            .cancels = a->flags & WIRE_CANCELS};
     int error = c->bytes ? prepare_call(c) : ENOMEM, kind = a->request.kind;
     if (!error && !(error = note_call(k, c->place, &c->call))) {
         error = make_under_lock(k, c->place, &c->call, &k->event, &ended);
@@ -262,7 +292,7 @@ static bool begin_call(struct client *c, const struct wire_ask *a, const uint8_t
     size_t came = a->sent_len + (a->request.kind == BALSAEUCHRE_SEND ? a->room_len : 0);
     c->ask = *a;
     take_bytes(c, (size_t)a->sent_len + a->room_len);
-    if (came > LONG_ASK) wake_threads(); /* who have their answers, before the copying */
+    if (came > LONG_ASK) wake_threads(); /* the threads that have their answers, before the copying */
     if (c->bytes) copy_once(c->bytes, bytes, came);
     make_call(c);
     return true;

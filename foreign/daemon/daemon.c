@@ -6,11 +6,15 @@
 #include <sys/signalfd.h>
 #include <time.h>
 
-/* What the layer does with locks and words of threads. */
+/* The layer's functions on locks and words. The daemon has only one thread, so locks and wake-ups do
+ * nothing. */
 enum woken { HAS_ENDED, TIMED_OUT, WAS_INTERRUPTED };
 static void lock(neutrino *of) { (void)of; }
 static void unlock(neutrino *of) { (void)of; }
-static void wake(neutrino *of, uint64_t asleep) { (void)of, (void)asleep; }
+static void wake(neutrino *of, uint64_t asleep) {
+    (void)of;
+    (void)asleep;
+}
 static bool is_ended(struct place *p) { return !p->call; }
 static void open_word(struct place *p, bool interrupted) { p->word = interrupted ? INTERRUPTED : OPEN; }
 static uint64_t tell(neutrino *of, uint64_t ended);
@@ -39,12 +43,14 @@ static uint64_t now(void) {
 #include "turns.c"
 #include "packets.c"
 
-static bool stops;     /* a signal has asked for the end; its address is what the epoll says of signals */
-static unsigned awake; /* how long it looks at the boxes in vain before it sleeps; on one processor not at all */
+static bool stops; /* a signal has asked for the end; in the epoll its address marks signals */
+/* Nanoseconds for which the daemon looks at boxes without news before it sleeps. 0 on one processor. */
+static unsigned awake;
 
 enum { AWAKE = 20000, DUE = 50000 }; /* nanoseconds */
 
-/* Opens the kernel: seats and a clock for each process, and the daemon's own thread. Returns 0 or an error. */
+/* Opens the kernel: seats and a clock for each process, and the daemon's own thread. Returns 0 or an
+ * error. */
 static uint32_t open_all(void) {
     balsaeuchre_thread roster[PLACES];
     size_t length = 0;
@@ -63,8 +69,8 @@ static uint32_t open_all(void) {
     }
     roster[length++] = (balsaeuchre_thread){SYSTEM, SYSTEM, USUAL};
     open_tables(k);
-    k->tables[MESSAGES].turns >>= SLOT_BITS;    /* an rcvid has the process below */
-    k->tables[CONNECTIONS].turns >>= 1;         /* an scoid has a bit that no coid has */
+    k->tables[MESSAGES].turns >>= SLOT_BITS; /* the low bits of an rcvid are its sender's process */
+    k->tables[CONNECTIONS].turns >>= 1;      /* an scoid has a bit that no coid has */
     k->hooks.pulse = complete_pulse;
     open_notes();
     record_roster(roster, length);
@@ -72,7 +78,7 @@ static uint32_t open_all(void) {
     return balsaeuchre_open(roster, length, &k->library);
 }
 
-/* Ends the calls whose time is over. Returns the time of the next one, or 0. */
+/* Ends the calls that have timed out. Returns the time of the next timeout, or 0. */
 static uint64_t end_late_calls(void) {
     uint64_t next = 0, time = 0;
     for (int at = 0; at < PLACES; at++) {
@@ -85,14 +91,14 @@ static uint64_t end_late_calls(void) {
     return next;
 }
 
-/* Of two times the one that comes first. 0: none. */
+/* The earlier of two times. 0: none. */
 static uint64_t first_of(uint64_t one, uint64_t other) { return one && (!other || one < other) ? one : other; }
 
-/* Waits for packets and bells, or only looks for them, and takes a packet of each socket that has one. */
+/* Waits for packets and bells, or only looks for them. Takes one packet from each socket that has any. */
 static void take_packets(bool sleeps) {
     struct epoll_event ready[64];
     uint64_t next = first_of(end_late_calls(), rests_until), time = now();
-    wake_threads(); /* whose calls have ended just now */
+    wake_threads(); /* the threads whose calls have just ended */
     if (ending) next = first_of(next, time + RETRY * 1000000u);
     if (has_later) next = first_of(next, time + SOON);
     uint64_t left = sleeps && next > time ? next - time : 0;
@@ -108,10 +114,10 @@ static void take_packets(bool sleeps) {
     end_rest();
 }
 
-/* Takes what is in the boxes. Where none has any news for a while, it sleeps. */
+/* Takes the requests in the boxes. If there was no news for a while, the daemon sleeps. */
 static void serve_once(void) {
-    static uint64_t awake_until, due; /* due: when the sockets are looked at */
-    static uint64_t retry;            /* when those that could not end are tried again */
+    static uint64_t awake_until, due; /* due: the time of the next look at the sockets */
+    static uint64_t retry;            /* when ends of programs are tried again */
     bool found = look_at_boxes();
     uint64_t time = turn;
     bool sleeps = !found && time >= awake_until;
@@ -136,14 +142,15 @@ static void serve_once(void) {
     }
 }
 
-/* Opens those of the standard files that are closed, as another file would get such a number. */
+/* Opens the standard files that are closed. Otherwise another file would get their numbers. */
 static void open_standard_files(void) {
     int fd = open("/dev/null", O_RDWR);
     while (fd >= 0 && fd <= STDERR_FILENO) fd = open("/dev/null", O_RDWR);
     if (fd != -1) close(fd);
 }
 
-/* Opens the socket, and then the file of the record, which a daemon that isn't the only one leaves as it is. */
+/* Opens the socket, and then the file of the record. If another daemon has the
+ * socket, the file stays as it is. */
 static bool open_files(const char *path) {
     if (!open_listener(path)) return false;
     if (record_file) record = open(record_file, O_WRONLY | O_CREAT | O_TRUNC | O_CLOEXEC, 0600);
@@ -168,11 +175,13 @@ static int run(void) {
     return 0;
 }
 
-/* Whether header and library are of one version, both proved or both unproved. An unproved kernel is told. */
+/* Whether header and library have one version, and both are proved or both unproved. Reports an unproved
+ * kernel on standard error. */
 static bool has_its_library(void) {
     if (balsaeuchre_version() != BALSAEUCHRE_VERSION)
-        return complain("its header and its library have other versions, or one of them is unproved: build it again, by "
-                        "foreign/install");
+        return complain(
+            "its header and its library have other versions, or one of them is unproved: build it again, by "
+            "foreign/install");
     if (BALSAEUCHRE_VERSION & BALSAEUCHRE_UNPROVED) fputs("balsaeuchred: its kernel is unproved\n", stderr);
     return true;
 }
@@ -180,7 +189,8 @@ static bool has_its_library(void) {
 int main(int count, char **words) {
     const char *path = NULL;
     open_standard_files();
-    mallopt(M_MMAP_THRESHOLD, KEPT / 2); /* long calls come again and again, and fresh pages take longer than copies */
+    /* Long calls come again and again, and fresh pages take longer than copies. */
+    mallopt(M_MMAP_THRESHOLD, KEPT / 2);
     mallopt(M_TRIM_THRESHOLD, KEPT);
     int status = read_options(count, words, &path);
     if (status != -1) return status;

@@ -1,9 +1,10 @@
-/* The parts of the daemon share these. Tested, not proved.
+/* Declarations that the parts of the daemon share. Tested, not proved.
  *
- * One thread makes all calls, in the library's memory of this process alone. It waits for nothing but epoll: a socket
- * is read and written without waiting, a packet at a time, and a box an ask at a time. The kernel's threads are seats,
- * some for each process, and besides a clock for each process, which is never blocked and acts for it, and one thread
- * of the daemon's own.
+ * One thread makes all calls, on memory of the library that only this process has. It waits only in epoll:
+ * it reads and writes a socket without waiting, one packet at a time, and takes one request at a time from
+ * a box. Most threads of the kernel are seats for the programs' threads: each process has some. Each
+ * process also has a clock, which is never blocked and makes calls for the process. One more thread of the
+ * kernel is the daemon's own.
  */
 #ifndef BALSAEUCHRE_DAEMON_H
 #define BALSAEUCHRE_DAEMON_H
@@ -21,45 +22,47 @@ enum { CLIENTS = 256, PROCESSES = 32, CLOCKS = 100, SYSTEM = 200, RETRY = 10 }; 
 enum { USUAL = 10, SIDE = SCOID };
 enum { LONG_ASK = 1 << 16, KEPT = 64 << 20 }; /* bytes; KEPT: of free memory that the host doesn't get back */
 enum { CHANNEL_PLACES = 1 << CHANNEL_BITS, CONNECTION_PLACES = 1 << CONNECTION_BITS };
-enum { WAITING = 1024 }; /* pulses of a channel, at most */
+enum { WAITING = 1024 }; /* pulses that wait on a channel, at most */
 _Static_assert(PROCESSES <= 1 << SLOT_BITS, "a process in the bits of a place");
 
-/* A socket. */
+/* A connected socket: a program's own, or a thread's. Before its first packet it is neither. */
 struct client {
     bool is_used, is_process;
-    int fd; /* -1: it has ended, while the thread's call is still open */
-    int bell;             /* of a thread; -1: none */
-    struct wire_box *box; /* of a thread, or null */
-    uint32_t asked, given_up; /* as they were read in the box */
-    bool rings;               /* as it was written there */
+    int fd;                   /* -1: it has ended, while the thread's call is still open */
+    int bell;                 /* of a thread; -1: none */
+    struct wire_box *box;     /* of a thread, or null */
+    uint32_t asked, given_up; /* the values last read from the box */
+    bool rings;               /* the value last written to the box */
     struct ucred peer;
     uint8_t process;     /* 0: it hasn't joined */
     struct place *place; /* of a thread */
     int tid;             /* of a thread, in its process */
-    pid_t host_tid;      /* of a thread, as it says */
-    struct wire_ask ask; /* of the call that is open */
+    pid_t host_tid;      /* of a thread, as the thread reports it */
+    struct wire_ask ask; /* the open request */
     struct call call;
     struct wire_answer answer;
-    uint8_t *bytes; /* of the call: sent, then room; null if they are too many */
+    uint8_t *bytes; /* of the call: sent, then room; null: too many, or no memory */
     size_t size;
     bool wrote;       /* a Write has changed the reply buffer */
-    uint64_t came_as; /* the number of its accept */
+    uint64_t came_as; /* its number in the order of accepts */
 };
 
 static const struct client no_client = {.fd = -1, .bell = -1};
 
-/* A process of the kernel, which is a place for a program of the host. */
+/* A process of the kernel: a place for a program of the host. */
 struct process {
-    struct ucred peer; /* pid 0: it is free */
+    struct ucred peer; /* pid 0: the place is free */
     int pidfd;         /* of the program; -1: it has ended */
     int scoid;
-    uint64_t came_as;  /* the number of the accept of its socket */
-    uint64_t first;    /* the serial of the first message that may be from it */
-    uint64_t ended_as; /* counts the ends of programs; 0: it has not ended */
-    bool retries;      /* what the kernel refused as it ended is tried again */
-    uint64_t asked_at; /* the time of its last ask */
-    uint64_t due;      /* the time until which its long asks are paid for, see turns.c */
-    uint32_t partners; /* the processes that are connected to it, or it to them, each as a bit, as of its last long ask */
+    uint64_t came_as;  /* the number of its socket in the order of accepts */
+    uint64_t first;    /* the serial of the first message that may come from it */
+    uint64_t ended_as; /* its number in the order in which programs end; 0: it has not ended */
+    bool retries;      /* calls that the kernel refused at its end are tried again */
+    uint64_t asked_at; /* the time of its last request */
+    uint64_t due;      /* the time until which its long requests are paid for, see turns.c */
+    /* A bit for each process that it was connected to, or that was connected to it, at its last long
+     * request. */
+    uint32_t partners;
     size_t bytes;
     int channels, connections;
     uint32_t ngroups;
@@ -68,18 +71,18 @@ struct process {
 
 static struct {
     int processes, threads, channels, connections, bytes;
-    gid_t group; /* which may connect, too, if has_group */
+    gid_t group; /* its members may also connect, if has_group */
     bool has_group;
 } limits = {0, 0, 16, 256, 8 << 20, 0, false};
 
-/* The threads of each process where limits says nothing. With a clock for each they are 63. */
+/* The threads of each process if no option says how many. With a clock for each process they are 63. */
 static const uint8_t usual_threads[] = {18, 8, 5, 4, 3, 3, 2, 2, 2, 2, 1, 1};
 
 static neutrino kernel_of_all, *const k = &kernel_of_all;
 static struct client clients[CLIENTS];
-static struct client *client_of[PLACES]; /* by place */
+static struct client *client_of[PLACES]; /* by the index of its seat in k->places */
 static struct process processes[PROCESSES];
-static int gone, ending; /* clients whose socket has ended; processes whose end is tried again */
+static int gone, ending; /* threads whose socket has ended; processes whose end is tried again */
 
 static uint8_t clock_of(int process) { return (uint8_t)(CLOCKS + process); }
 

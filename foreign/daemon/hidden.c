@@ -1,28 +1,31 @@
-/* Calls of threads that are no program's: clocks, and the daemon's own. Pulses, with notes of what the kernel does not
- * know of them. Tested, not proved.
+/* Calls of the clocks and of the daemon's own thread, and the notes of pulses. Tested, not proved.
  *
- * Each pulse that a program sends has the code NOTED in the kernel, and as its value the number of a note. The pulses
- * that the kernel makes, of disconnects and to unblock, have notes, too, which are found by what the kernel says of
- * them: who they are from is not always in the place still as they are received. There are as many notes as pulses may
- * wait: 1,024 on each of 64 channels, besides one for each seat whose pulse is refused.
+ * A note has the content of a pulse that the kernel doesn't know. Each pulse that a program sends has
+ * the code NOTED in the kernel, and the number of a note as its value. The kernel's own pulses, for
+ * disconnects and unblocks, also have notes. When such a pulse is received, the place of its program
+ * may belong to another program. The daemon finds its note by the numbers in the kernel's completion.
+ * There are as many notes as pulses may wait, 1,024 on each of 64 channels, and one more for each seat,
+ * whose pulse may be refused.
  */
 enum { NOTED = 127, NOTES = WAITING * CHANNEL_PLACES + PLACES, TAKEN = -2 };
 
 struct note {
-    int next; /* the next free one, -1: none; TAKEN: it is not free */
+    int next; /* the next free note, or -1; TAKEN: this note is in use */
     int chid;
     int32_t scoid;
     int8_t code;
     int64_t value;
-    uint64_t id; /* of a pulse of the kernel: of a disconnect the number of the call that made it, else the message's */
-    int later;   /* the next such note of the channel, -1: none */
+    /* Of a pulse that the kernel made: the number of the call that made a disconnect pulse, or the id of
+     * an unblock pulse's message. */
+    uint64_t id;
+    int later; /* of such a pulse: the channel's next note of this kind, or -1 */
 };
 
 static struct note notes[NOTES];
 static int free_note = -1;
-static int pulses[CHANNEL_PLACES]; /* notes of a channel, by its place: the pulses that wait there */
-static int listed[CHANNEL_PLACES]; /* the first of those whose pulses the kernel made, or -1 */
-static uint8_t flags_of[CHANNEL_PLACES]; /* of the kernel's channel */
+static int pulses[CHANNEL_PLACES];       /* by a channel's place: its notes, as many as pulses wait there */
+static int listed[CHANNEL_PLACES];       /* the channel's first note of a pulse that the kernel made, or -1 */
+static uint8_t flags_of[CHANNEL_PLACES]; /* the channel's flags in the kernel */
 
 static int chid_at(int place) { return (int)(k->channels[place].turn << CHANNEL_BITS) | place; }
 
@@ -69,7 +72,8 @@ static void note_kernel_pulse(int chid, int scoid, int code, int64_t value, uint
     *first = at;
 }
 
-/* Ends the note of such a pulse. Returns what it had; the scoid is 0 if there is none. */
+/* Ends the note of a pulse that the kernel made. Returns its content, whose scoid is 0
+ * if there is no such note. */
 static struct note take_kernel_pulse(int chid, int code, uint64_t id) {
     int *link = &listed[place_in(&k->tables[CHANNELS], chid)];
     while (*link != -1 && (notes[*link].code != code || notes[*link].id != id)) link = &notes[*link].later;
@@ -81,14 +85,16 @@ static struct note take_kernel_pulse(int chid, int code, uint64_t id) {
     return found;
 }
 
-/* Whether one more pulse may wait on a channel. Where processes' disconnects are pulses, one place is kept for each. */
+/* Whether one more pulse may wait on a channel. On a channel with the flag DISCONNECT, one place is kept for
+ * the disconnect pulse of each process. */
 static bool has_room(int chid) {
     int place = place_in(&k->tables[CHANNELS], chid);
     int kept = flags_of[place] & BALSAEUCHRE_TELL_DISCONNECT ? limits.processes : 0;
     return pulses[place] < WAITING - kept;
 }
 
-/* The processes that are connected to a channel, each as a bit, but for one connection. */
+/* A bit for each process that is connected to a channel. The connection but, which may be null, is left
+ * out. */
 static uint32_t connected_to(int chid, const struct name *but) {
     uint32_t found = 0;
     for (int at = 0; at < CONNECTION_PLACES; at++) {
@@ -98,7 +104,7 @@ static uint32_t connected_to(int chid, const struct name *but) {
     return found;
 }
 
-/* Whether a process may connect to a channel: its disconnect has to have a place there, too. */
+/* Whether a process may connect to a channel: its disconnect pulse has to have a place there, too. */
 static bool may_attach(int process, int chid) {
     int place = place_in(&k->tables[CHANNELS], chid);
     if (!(flags_of[place] & BALSAEUCHRE_TELL_DISCONNECT) || pulses[place] < WAITING - PROCESSES) return true;
@@ -106,8 +112,8 @@ static bool may_attach(int process, int chid) {
     return connected >> process & 1 || pulses[place] + __builtin_popcount(connected) < WAITING;
 }
 
-/* A connection was detached by this call of the kernel. If it was the last one of its process to a channel that is told
- * so, the kernel has made a pulse. */
+/* This call of the kernel has detached a connection. If it was the last one of its process to a channel with
+ * the flag DISCONNECT, the kernel has made a pulse, which gets a note. */
 static void note_detach(const struct name *name, uint64_t call) {
     int place = place_in(&k->tables[CHANNELS], name->peer);
     bool is_open = k->channels[place].id && chid_at(place) == name->peer;
@@ -116,7 +122,7 @@ static void note_detach(const struct name *name, uint64_t call) {
     note_kernel_pulse(name->peer, processes[name->owner].scoid, _PULSE_CODE_DISCONNECT, 0, call);
 }
 
-/* The layer's hook: a pulse is received. */
+/* The layer's hook for a received pulse: fills in the content from its note, which ends. */
 static void complete_pulse(struct _pulse *pulse) {
     int at = pulse->value.sival_int;
     pulse->code = notes[at].code;
@@ -125,7 +131,7 @@ static void complete_pulse(struct _pulse *pulse) {
     end_note(at);
 }
 
-/* Makes a call of a thread that is no program's. Returns 0 or its errno. */
+/* Makes a call by a clock or by the daemon's own thread. Returns 0 or its errno. */
 static int make_hidden(balsaeuchre_request request) {
     struct call c = {.request = request};
     uint32_t error = make_in_library(k, &c, 0, &k->event);
@@ -140,7 +146,7 @@ static int make_hidden(balsaeuchre_request request) {
     return host_error(error);
 }
 
-/* Sends a pulse by a thread that is no program's. Returns 0 or an errno. */
+/* Sends a pulse by a clock or by the daemon's own thread. Returns 0 or an errno. */
 static int send_pulse(balsaeuchre_request request, const struct note *content) {
     int note = new_note(content->chid, content->scoid, content->code, content->value);
     if (note == -1) return EAGAIN;
@@ -152,14 +158,19 @@ static int send_pulse(balsaeuchre_request request, const struct note *content) {
     return error;
 }
 
-/* ---- the pulses of ends: over a connection of the daemon's own process to each channel that asks for them */
+/* ---- pulses about ended threads and lost connections: the daemon's own process is connected to each
+ * channel that asks for them */
 /* As in sys/neutrino.h of foreign/qnx. */
 enum { THREAD_DEATH = 0x100, COID_DISCONNECT = 0x200, DEATHS = THREAD_DEATH | COID_DISCONNECT };
 enum { CODE_THREADDEATH = -3, CODE_COIDDEATH = -4 };
 
-static struct { uint64_t connection; unsigned flags; } told[CHANNEL_PLACES]; /* by the channel's place; flags 0: not */
+/* By the channel's place. flags 0: the channel doesn't ask for these pulses. */
+static struct {
+    uint64_t connection;
+    unsigned flags;
+} told[CHANNEL_PLACES];
 
-/* A new channel is told of ends. Returns 0 or an errno. */
+/* Prepares a new channel for the pulses about ends that its flags ask for. Returns 0 or an errno. */
 static int tell_of_ends(int chid, unsigned flags) {
     int place = place_in(&k->tables[CHANNELS], chid);
     uint64_t channel = k->channels[place].id;
@@ -170,8 +181,8 @@ static int tell_of_ends(int chid, unsigned flags) {
     return 0;
 }
 
-/* Sends a pulse to each channel of a process that has this flag. It is lost where there is no room beside the disconnects
- * of those who are connected. */
+/* Sends a pulse to each channel of a process that has this flag. The pulse is lost if the remaining room is
+ * needed for the disconnect pulses of connected processes. */
 static void tell_process(int process, unsigned flag, int code, int value) {
     for (int place = 0; place < CHANNEL_PLACES; place++) {
         const struct name *channel = &k->channels[place];
@@ -196,7 +207,8 @@ static int coid_at(int place) {
 
 static char names[CHANNEL_PLACES][WIRE_NAME]; /* by the channel's place; empty: none */
 
-/* A channel was destroyed: its name and its notes go, and those who are connected to it are told. */
+/* A channel was destroyed: removes its name and its notes, and sends COIDDEATH pulses to connected
+ * processes that ask for them. */
 static void end_channel(int chid) {
     int place = place_in(&k->tables[CHANNELS], chid);
     *names[place] = 0;
@@ -207,7 +219,6 @@ static void end_channel(int chid) {
     told[place].flags = 0;
     for (int at = 0; at < CONNECTION_PLACES; at++) {
         const struct name *name = &k->connections[at];
-        if (name->id && name->peer == chid)
-            tell_process(name->owner, COID_DISCONNECT, CODE_COIDDEATH, coid_at(at));
+        if (name->id && name->peer == chid) tell_process(name->owner, COID_DISCONNECT, CODE_COIDDEATH, coid_at(at));
     }
 }

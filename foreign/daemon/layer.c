@@ -1,5 +1,5 @@
-/* The layer of threads as one object, whose kernel is the daemon's if the environment has BALSAEUCHRE_SYSTEM.
- * Tested, not proved. */
+/* The layer of threads as one object. Its kernel is the daemon's if the environment has
+ * BALSAEUCHRE_SYSTEM. Tested, not proved. */
 #define _GNU_SOURCE
 #include "layer.h"
 #include "remote.h"
@@ -14,7 +14,8 @@
 #include "timeouts.c"
 #include "under_lock.c"
 
-/* With a kernel of the program's own: the layer's functions that differ, which have other names here. */
+/* The layer's functions for a kernel of the program's own. They have other names here, because remote.c
+ * defines functions of the layer's names, which choose between the two kernels. */
 static long call_here(struct call *c);
 static neutrino *open_here(uint32_t version, const struct neutrino_thread *threads, size_t count);
 static int join_here(neutrino *k, int tid);

@@ -1,4 +1,4 @@
-/* Sockets to the daemon. A call waits for its answer. Tested, not proved. */
+/* Sockets to the daemon, at which a caller waits for its answer. Tested, not proved. */
 #include <pwd.h>
 #include <stdatomic.h>
 #include <stdio.h>
@@ -6,7 +6,7 @@
 #include <sys/uio.h>
 #include <sys/un.h>
 
-/* The user whom BALSAEUCHRE_SYSTEM_USER names, by a name or a number; or -1. */
+/* The user whom BALSAEUCHRE_SYSTEM_USER names, by a name or a number. -1: there is none. */
 static uid_t trusted_user(void) {
     const char *name = secure_getenv("BALSAEUCHRE_SYSTEM_USER");
     struct passwd entry, *found = NULL;
@@ -17,8 +17,8 @@ static uid_t trusted_user(void) {
     return !getpwnam_r(name, &entry, room, sizeof room, &found) && found ? entry.pw_uid : (uid_t)-1;
 }
 
-/* Whether the daemon at a socket is root's, this user's, or that of the user whom the environment names. Where it is
- * not, that is said once. */
+/* Whether the daemon at a socket runs as root, as this user, or as the user whom the environment names. If
+ * not, reports it on standard error, once. */
 static bool may_ask(int fd, const char *path) {
     static atomic_bool said;
     struct ucred daemon;
@@ -26,12 +26,15 @@ static bool may_ask(int fd, const char *path) {
     if (getsockopt(fd, SOL_SOCKET, SO_PEERCRED, &daemon, &length)) return false;
     if (daemon.uid == 0 || daemon.uid == geteuid() || daemon.uid == trusted_user()) return true;
     if (atomic_exchange(&said, true)) return false;
-    dprintf(STDERR_FILENO, "balsaeuchre: the balsaeuchred at %s is of user %u: expected root's (0) or this user's "
-            "(%u). BALSAEUCHRE_SYSTEM_USER=%u takes it\n", path, daemon.uid, geteuid(), daemon.uid);
+    dprintf(STDERR_FILENO,
+            "balsaeuchre: the balsaeuchred at %s is of user %u: expected root's (0) or this user's "
+            "(%u). BALSAEUCHRE_SYSTEM_USER=%u takes it\n",
+            path, daemon.uid, geteuid(), daemon.uid);
     return false;
 }
 
-/* Connects to the daemon of a path. EPERM: it is of a user whom this program doesn't trust. */
+/* Connects to the daemon at a path. Returns the socket, or -1 and sets errno. EPERM: the program
+ * doesn't trust the daemon's user. */
 static int connect_to(const char *path) {
     struct sockaddr_un address = {.sun_family = AF_UNIX};
     if (!path || strlen(path) >= sizeof address.sun_path) return fail(ENAMETOOLONG);
@@ -45,13 +48,16 @@ static int connect_to(const char *path) {
     return fail(error);
 }
 
-/* Asks the daemon by a packet, and waits. Returns the result, or fails with the daemon's error, or with ESHUTDOWN if it
- * is gone. files, if not null, gets those that come with the answer. A daemon that refuses a socket closes it after an
- * answer that is there before the ask. */
+/* Sends a request to the daemon in a packet, and waits for the answer. Returns the result, or fails with the
+ * daemon's error, or with ESHUTDOWN if the daemon is gone. files, if not null, gets the files that come with
+ * the answer. A daemon that refuses a socket answers before the request, and closes the socket. */
 static long exchange(int fd, struct wire_ask *ask, struct iovec sent, struct wire_answer *answer, struct iovec room,
                      int files[2]) {
     struct iovec asked[] = {{ask, sizeof *ask}, sent}, answered[] = {{answer, sizeof *answer}, room};
-    union { struct cmsghdr head; char room[CMSG_SPACE(2 * sizeof *files)]; } rights = {.head = {0}};
+    union {
+        struct cmsghdr head;
+        char room[CMSG_SPACE(2 * sizeof *files)];
+    } rights = {.head = {0}};
     struct msghdr out = {.msg_iov = asked, .msg_iovlen = 2}, in = {.msg_iov = answered, .msg_iovlen = 2};
     ssize_t length;
     in.msg_control = &rights;

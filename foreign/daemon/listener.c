@@ -1,4 +1,5 @@
-/* The socket that programs connect to. It is made, or is systemd's, and one daemon has it. Tested, not proved. */
+/* The socket to which programs connect. The daemon makes it or gets it from systemd, and only one daemon
+ * has it. Tested, not proved. */
 #include <sys/file.h>
 #include <sys/stat.h>
 
@@ -6,13 +7,13 @@ enum { REST = 100 }; /* milliseconds */
 
 static int listener = -1;
 static struct stat made;     /* the file of the socket, if the daemon made it */
-static int spare = -1;       /* an open file, which is closed where the host gives the daemon no further one */
-static uint64_t rests_until; /* the listener is out of the epoll until then; 0: it is in */
+static int spare = -1;       /* an open file; it is closed if the host gives the daemon no further file */
+static uint64_t rests_until; /* until then the epoll doesn't watch the listener; 0: it does */
 
 /* ---- opening */
 
-/* Takes the lock of a path, which is the daemon's for its life. The file stays: if it were removed, two daemons could
- * have a lock each, on two files of the same name. */
+/* Takes the lock of a path, which the daemon holds until it ends. The lock file stays. If it were removed,
+ * two daemons could each have a lock, on two files of the same name. */
 static bool take_lock(const char *path) {
     char name[sizeof((struct sockaddr_un *)0)->sun_path + sizeof ".lock"];
     snprintf(name, sizeof name, "%s.lock", path);
@@ -24,11 +25,13 @@ static bool take_lock(const char *path) {
 }
 
 static const char *kind_of(mode_t mode) {
-    return S_ISREG(mode) ? "a regular file" : S_ISDIR(mode) ? "a directory" : S_ISLNK(mode) ? "a symbolic link"
-         : S_ISFIFO(mode) ? "a pipe" : "a device";
+    if (S_ISREG(mode)) return "a regular file";
+    if (S_ISDIR(mode)) return "a directory";
+    if (S_ISLNK(mode)) return "a symbolic link";
+    return S_ISFIFO(mode) ? "a pipe" : "a device";
 }
 
-/* Whether a path has a socket or nothing. Anything else stays as it is. */
+/* Whether a path is a socket or doesn't exist. Reports any other file, which stays as it is. */
 static bool may_be_socket(const char *path) {
     struct stat there;
     if (lstat(path, &there)) return errno == ENOENT || complain("%s: %s", path, strerror(errno));
@@ -37,7 +40,8 @@ static bool may_be_socket(const char *path) {
                     kind_of(there.st_mode));
 }
 
-/* Removes the socket of a daemon that has ended. */
+/* Removes the socket of a daemon that has ended. Returns false if another program
+ * listens there, or on an error. */
 static bool remove_old_socket(const char *path, const struct sockaddr_un *address) {
     int fd = socket(AF_UNIX, SOCK_SEQPACKET | SOCK_CLOEXEC | SOCK_NONBLOCK, 0);
     int error = connect(fd, (const struct sockaddr *)address, sizeof *address) ? errno : 0;
@@ -89,13 +93,13 @@ static bool inherit_listener(void) {
     return complain("the socket of systemd: %s", strerror(errno));
 }
 
-/* Opens the socket, or takes it from systemd. Returns whether it could. */
+/* Opens the socket, or takes it from systemd. Returns whether that succeeded. */
 static bool open_listener(const char *path) {
     spare = open("/dev/null", O_RDONLY | O_CLOEXEC);
     return path ? make_listener(path) : inherit_listener();
 }
 
-/* Removes the socket, unless another file has its place. */
+/* Removes the socket, unless another file is at its path by now. */
 static void remove_socket(const char *path) {
     struct stat there;
     if (!path || lstat(path, &there) || there.st_dev != made.st_dev || there.st_ino != made.st_ino) return;
@@ -117,7 +121,8 @@ static bool may_connect(int fd, struct ucred *peer) {
     return false;
 }
 
-/* A free client; or the oldest one that has not joined, whose socket is closed. */
+/* Returns a free client. If there is none, takes the oldest client that has not joined, and closes its
+ * socket. Null: all clients have joined. */
 static struct client *new_client(void) {
     struct client *oldest = NULL;
     for (int at = 0; at < CLIENTS; at++) {
@@ -129,7 +134,7 @@ static struct client *new_client(void) {
     return oldest;
 }
 
-/* Closes a socket, whose first ask has this error as its answer. */
+/* Sends this error as the answer to a socket's first request, and closes the socket. */
 static void refuse(int fd, int error) {
     struct wire_answer answer = {.error = error, .result = -1};
     send(fd, &answer, sizeof answer, MSG_NOSIGNAL | MSG_DONTWAIT);
@@ -138,8 +143,9 @@ static void refuse(int fd, int error) {
 
 static int accept_socket(void) { return accept4(listener, NULL, NULL, SOCK_CLOEXEC | SOCK_NONBLOCK); }
 
-/* The host gives no file for the next socket: it gets the place of the spare one, and is refused. Where that fails,
- * too, the listener rests, as the epoll would say again and again that a socket waits. */
+/* The host gives no file for the next socket. So the daemon accepts it in place of the spare file,
+ * and refuses it. If that fails, too, the listener rests, because the epoll would report the
+ * waiting socket again and again. */
 static void refuse_next(void) {
     if (spare != -1) close(spare);
     int fd = accept_socket();

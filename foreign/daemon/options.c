@@ -1,4 +1,4 @@
-/* The words of the command. Tested, not proved. */
+/* The options of the command line. Tested, not proved. */
 #include <getopt.h>
 #include <grp.h>
 #include <stdarg.h>
@@ -21,30 +21,24 @@ static const char usage[] =
     "  --help              prints this\n"
     "SOCKET.lock is held while the daemon runs, so that one daemon has SOCKET. The file stays after the end.\n";
 
-static const struct { int *limit, most; } numbers[] = {
-    {&limits.processes, PROCESSES - 1},
-    {&limits.threads, PLACES - 2},
-    {&limits.channels, CHANNEL_PLACES},
-    {&limits.connections, CONNECTION_PLACES},
-    {&limits.bytes, INT_MAX},
+static const struct {
+    int *limit, most;
+} numbers[] = {
+    {&limits.processes, PROCESSES - 1},       {&limits.threads, PLACES - 2}, {&limits.channels, CHANNEL_PLACES},
+    {&limits.connections, CONNECTION_PLACES}, {&limits.bytes, INT_MAX},
 };
 enum { NUMBERS = sizeof numbers / sizeof *numbers };
 
-/* Those with numbers have their place in the table above. */
+/* An option with a number has the index of its limit in the table above. */
 static const struct option options[] = {
-    {"processes", required_argument, NULL, 0},
-    {"threads", required_argument, NULL, 1},
-    {"channels", required_argument, NULL, 2},
-    {"connections", required_argument, NULL, 3},
-    {"bytes", required_argument, NULL, 4},
-    {"group", required_argument, NULL, 'g'},
-    {"record", required_argument, NULL, 'r'},
-    {"version", no_argument, NULL, 'v'},
-    {"help", no_argument, NULL, 'h'},
-    {NULL, 0, NULL, 0},
+    {"processes", required_argument, NULL, 0}, {"threads", required_argument, NULL, 1},
+    {"channels", required_argument, NULL, 2},  {"connections", required_argument, NULL, 3},
+    {"bytes", required_argument, NULL, 4},     {"group", required_argument, NULL, 'g'},
+    {"record", required_argument, NULL, 'r'},  {"version", no_argument, NULL, 'v'},
+    {"help", no_argument, NULL, 'h'},          {NULL, 0, NULL, 0},
 };
 
-/* Says why the daemon doesn't start. Returns false. */
+/* Reports on standard error why the daemon doesn't start. Returns false. */
 __attribute__((format(printf, 1, 2))) static bool complain(const char *format, ...) {
     va_list words;
     va_start(words, format);
@@ -55,7 +49,7 @@ __attribute__((format(printf, 1, 2))) static bool complain(const char *format, .
     return false;
 }
 
-/* Reads a text that is a whole number within bounds, and nothing else. */
+/* Reads a text that is a whole number from least to most, and nothing else. Returns whether it is. */
 static bool read_number(const char *text, long least, long most, long *number) {
     char *end;
     if (!text || *text < '0' || *text > '9') return false;
@@ -81,7 +75,8 @@ static bool read_group(const char *name) {
     return true;
 }
 
-/* Of processes and threads the one that isn't given is as great as it can be. Returns whether both fit. */
+/* Without options for processes and threads, both are as in usual_threads. With one of the options, the other
+ * limit is as great as possible. Returns whether both fit. */
 static bool fill_limits(void) {
     int *processes = &limits.processes, *threads = &limits.threads;
     if (!*processes && !*threads) *processes = sizeof usual_threads / sizeof *usual_threads;
@@ -93,7 +88,7 @@ static bool fill_limits(void) {
                     *processes, *threads, PLACES - 1, *processes * (*threads + 1));
 }
 
-/* Reads one option, as getopt_long returns it; word is the last one that it read. */
+/* Reads one option, as getopt_long returns it. word is the last word that getopt_long has read. */
 static bool read_option(int option, const char *word) {
     if (option >= 0 && option < NUMBERS) return read_limit(option, optarg);
     if (option == 'g') return read_group(optarg);
@@ -105,7 +100,8 @@ static bool read_option(int option, const char *word) {
     return true;
 }
 
-/* Reads the options, and what follows them. Returns -1; or the status with which the daemon ends at once. */
+/* Reads the options, and the path that may follow them. Returns -1, or the status with
+ * which the daemon ends at once. */
 static int read_options(int count, char **words, const char **path) {
     bool right = true;
     opterr = 0;

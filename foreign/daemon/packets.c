@@ -1,34 +1,52 @@
 /* Reads packets and boxes. Tested, not proved. */
 
-/* Makes what an ask of the program's own socket, or of a thread's box, wants at once. Returns false for a malformed
- * one. */
+/* Answers a request other than a call, of a program's own socket or of a thread's box. Returns
+ * false for a malformed request. */
 static bool serve(struct client *c, const struct wire_ask *a, const uint8_t *bytes) {
     bool has_bytes = a->op == OP_NAME || a->op == OP_FIND;
     if (a->sent_len && !has_bytes) return false;
     c->answer = (struct wire_answer){.error = 0};
     switch (a->op) {
-    case OP_NAME: attach_name(c, a, bytes); break;
-    case OP_UNNAME: detach_name(c, a); break;
-    case OP_FIND: look_up_name(c, a, bytes); break;
-    case OP_CLIENT: tell_client(c, a); break;
+    case OP_NAME:
+        attach_name(c, a, bytes);
+        break;
+    case OP_UNNAME:
+        detach_name(c, a);
+        break;
+    case OP_FIND:
+        look_up_name(c, a, bytes);
+        break;
+    case OP_CLIENT:
+        tell_client(c, a);
+        break;
     case OP_SENDER:
-        if (c->box) return false; /* which brings no file */
+        if (c->box) return false; /* an answer in a box can't bring a file */
         tell_sender(c, a);
         break;
-    case OP_EVENT: deliver_event(c, a); break;
+    case OP_EVENT:
+        deliver_event(c, a);
+        break;
     case OP_DEATH:
         tell_process(c->process, THREAD_DEATH, CODE_THREADDEATH, a->number);
         put_result(c, 0, 0);
         break;
-    case OP_UNBLOCK: unblock_sender(c, a); break;
-    case OP_CANCEL: cancel_thread(c, a); break;
-    case OP_SHOW: show_all(c); break;
-    default: return false;
+    case OP_UNBLOCK:
+        unblock_sender(c, a);
+        break;
+    case OP_CANCEL:
+        cancel_thread(c, a);
+        break;
+    case OP_SHOW:
+        show_all(c);
+        break;
+    default:
+        return false;
     }
     return true;
 }
 
-/* The first packet of a socket says what it is. */
+/* Takes the first request of a socket, which says whether it is a program's, a thread's or pidin's. Returns
+ * false for any other request. */
 static bool join(struct client *c, const struct wire_ask *a) {
     if (a->sent_len || (a->op != OP_PROCESS && a->op != OP_THREAD && a->op != OP_SHOW)) return false;
     if (a->op == OP_PROCESS) join_process(c, a);
@@ -37,7 +55,8 @@ static bool join(struct client *c, const struct wire_ask *a) {
     return true;
 }
 
-/* Takes an ask. Its bytes may change still. Returns false if no program would send it: the socket is closed then. */
+/* Takes a request, whose bytes may still change. Returns false if no program would send it.
+ * Then the socket is closed. */
 static bool take_ask(struct client *c, const struct wire_ask *a, const uint8_t *bytes) {
     if (!c->is_process && !c->place) return join(c, a);
     if (c->place && c->place->call) return false;
@@ -45,7 +64,7 @@ static bool take_ask(struct client *c, const struct wire_ask *a, const uint8_t *
     return c->place && begin_call(c, a, bytes);
 }
 
-/* Takes a packet, which a thread that has a box sends none of. */
+/* Takes a packet. Returns false if it is malformed, or if its thread has a box and so sends no packets. */
 static bool take_packet(struct client *c, const uint8_t *packet, size_t length) {
     struct wire_ask a;
     if (length < sizeof a || length > sizeof a + WIRE_NAME || c->box) return false;
@@ -61,7 +80,7 @@ static void read_packet(struct client *c) {
     if (length <= 0 || !take_packet(c, packet, (size_t)length)) hang_up(c);
 }
 
-/* Takes an ask of a thread's box. */
+/* Takes a request from a thread's box. */
 static void take_from_box(struct client *c, const struct wire_ask *a) {
     int process = c->process;
     bool is_long = (uint64_t)a->sent_len + a->room_len > LONG_ASK;
@@ -71,7 +90,8 @@ static void take_from_box(struct client *c, const struct wire_ask *a) {
     else if (is_long) pay_for_ask(process, since);
 }
 
-/* Takes what is new in a thread's box: an ask, or that it wants its call to end. Returns whether there was any. */
+/* Takes the news of a thread's box: a request, or that the thread gives up its call.
+ * Returns whether there was any. */
 static bool read_box(struct client *c) {
     struct wire_box *box = c->box;
     uint32_t asked = atomic_load(&box->asked), given_up = atomic_load(&box->given_up);
@@ -102,7 +122,7 @@ static bool look_at_boxes(void) {
     return found;
 }
 
-/* Before it sleeps: from now on a bell has to be rung. */
+/* Before the daemon sleeps: from now on a thread has to ring its bell. */
 static void want_bells(void) {
     for (int at = 0; at < PLACES; at++) {
         struct client *c = client_of[at];

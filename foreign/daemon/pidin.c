@@ -1,7 +1,8 @@
 /* pidin: prints the programs of a daemon. Tested, not proved.
  *
- * For each thread its priority, its state and on whom it is blocked; and for each channel the messages that were sent
- * to it and not received, those that are held, the pulses and the threads that wait there, and its name. */
+ * It prints each thread's priority, its state and the thread on which it is blocked. Of each channel
+ * it prints how many messages are queued and how many are held, how many pulses and how many threads
+ * wait there, and its name. */
 #define _GNU_SOURCE
 #include "wire.h"
 
@@ -20,8 +21,8 @@ static int fail(int error) {
 #include "link.c"
 #include "version.c"
 
-/* Puts ? for what would act on the terminal. The daemon does so for names; a socket of another user's may be of a
- * program that doesn't. */
+/* Replaces each byte that would act on the terminal by ?. The daemon replaces them in names. But the program
+ * at another user's socket may not do that. */
 static void make_text(char *text, size_t length) {
     for (size_t at = 0; at < length; at++) {
         if (text[at] != '\n' && (text[at] < ' ' || text[at] > '~')) text[at] = '?';
@@ -35,8 +36,9 @@ int main(int count, char **words) {
     if (count == 2 && !strcmp(words[1], "--version")) return print_version("pidin");
     const char *path = count > 1 ? words[1] : getenv("BALSAEUCHRE_SYSTEM");
     if (count > 2 || !path || *path == '-') {
-        fputs("usage: pidin [SOCKET]\nPrints the programs of the balsaeuchred whose socket it is, or else "
-              "BALSAEUCHRE_SYSTEM. pidin --version prints its version.\n", stderr);
+        fputs("usage: pidin [SOCKET]\nPrints the programs of the balsaeuchred at SOCKET, by default at "
+              "BALSAEUCHRE_SYSTEM. pidin --version prints its version.\n",
+              stderr);
         return 2;
     }
     int fd = connect_to(path);

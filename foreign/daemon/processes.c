@@ -1,30 +1,35 @@
 /* Programs and their threads: how they join, and how they end. Tested, not proved.
  *
- * A place (a process of the kernel, 1 to 31) is free, or a program has it, or one that has ended.
+ * A place is a process of the kernel, 1 to 31. It is free, or a program has it, or a program
+ * that has ended still has it.
  *
- * Who is who. A program's scoid is its place and the generation of that, which is counted on at each join. So no two
- * programs have the same scoid until a place has been taken 2^24 times. An rcvid has its sender's place, which another
- * program may have by now, so a place keeps the serial of the first message that can be from its program, and an rcvid
- * from before that is nobody's. Notes of pulses have the scoid of their program, also of the pulses that the kernel
- * makes: a disconnect that waits is that of the program that has ended, whoever has its place.
+ * Identity. A program's scoid is its place and the place's generation, which each join increases. So no two
+ * programs have the same scoid until a place has been taken 2^24 times. An rcvid has its sender's place,
+ * which another program may have by now. So a place keeps the serial of the first message that can come from
+ * its program. An earlier rcvid leads to no program. The note of a pulse has the scoid of its program, also
+ * if the kernel makes the pulse. So a queued disconnect pulse names the program that has ended, even if
+ * another program has its place.
  *
- * When a program ends. Its pidfd tells so, or the end of its socket, whichever is first: the socket may stay open in a
- * forked child, and exec closes it. Then its channels are destroyed, and its calls are unblocked. One whose message is
- * held on a channel with the unblock flag stays open, and its server gets the pulse; all others end at once. All
- * connections are detached but those of calls that stay. The place is free as soon as nothing of this is left. A
- * server that never answers keeps the place, until a program joins and all places are taken: then the one that has been
- * ended the longest is emptied by force.
+ * Ends. The daemon learns that a program has ended by its pidfd or by the end of its socket, whichever comes
+ * first. It needs both: the socket may stay open in a forked child, and exec closes it. Then the daemon
+ * destroys the program's channels and unblocks its calls. A call whose message is held on a channel with the
+ * flag UNBLOCK stays open, and its server gets the unblock pulse. All other calls end at once. The daemon
+ * detaches all connections except the connections of calls that stay open. The place is free as soon as
+ * nothing of the program is left. If a server never replies, the program keeps its place until another
+ * program joins and all places are taken. Then the daemon empties the place of the program that ended first.
  *
- * Room. What ends a program must not depend on a server that doesn't receive. A detach may make a pulse, and the kernel
- * refuses it where 1,024 pulses wait. So on each channel the pulses that wait and the processes that are connected, of
- * which each owes a disconnect, are at most 1,024 together. A program's pulse is refused if it would not leave room for
- * the disconnects of all processes, and the first connection of a process if its disconnect would have no room: many
- * disconnects of one place may wait there, of programs that came and went.
+ * Room. The end of a program must not depend on a server that doesn't receive. A detach may make a
+ * disconnect pulse, and the kernel refuses the detach if 1,024 pulses wait on the channel. So on each
+ * channel the waiting pulses and the disconnect pulses that connected processes owe are at most 1,024
+ * together. The daemon refuses a program's pulse if it would leave too little room for the disconnect
+ * pulses of all processes. It refuses a process's first connection to a channel if its disconnect pulse
+ * would have no room. That can happen although there are few processes, because disconnect pulses of many
+ * earlier programs of one place may wait there.
  */
 #include <poll.h>
 #include <sys/syscall.h>
 
-/* Keeps the first groups of a socket's user. */
+/* Keeps the first WIRE_GROUPS groups of a socket's user. */
 static void read_groups(int fd, struct process *process) {
     gid_t groups[256];
     socklen_t length = sizeof groups;
@@ -39,7 +44,7 @@ static bool has_ended(int pidfd) {
     return pidfd == -1 || poll(&ended, 1, 0) != 0;
 }
 
-/* Whether a pid is that of a process of this user. */
+/* Whether the process with a pid has this effective user. */
 static bool is_of_user(pid_t pid, uid_t uid) {
     char path[40], line[200];
     unsigned real = 0, effective = 0;
@@ -55,8 +60,8 @@ static bool is_of_user(pid_t pid, uid_t uid) {
 #define PEER_PIDFD 77 /* SO_PEERPIDFD, since Linux 6.5 */
 #endif
 
-/* Opens the pidfd of the process that connected a socket. Returns it, or -1 if that has ended. An older host only finds
- * the process by its pid, and it has to be the same user's. */
+/* Opens a pidfd of the process that connected a socket. Returns it, or -1 if the process has ended. An older
+ * host finds the process only by its pid. Then the process also has to run as the socket's user. */
 static int open_pidfd(int fd, const struct ucred *peer) {
     int pidfd = -1;
     socklen_t length = sizeof pidfd;
@@ -70,7 +75,8 @@ static int open_pidfd(int fd, const struct ucred *peer) {
 
 static void end_connections(int process, bool by_force);
 
-/* Returns a free place; or empties that of the program that has been ended the longest. 0: there is none. */
+/* Returns a free place. If there is none, empties the place of the program that ended first. 0: no program
+ * has ended, or the place can't be emptied. */
 static int free_place(void) {
     int oldest = 0;
     for (int process = 1; process <= limits.processes; process++) {
@@ -109,15 +115,17 @@ static int take_place(struct client *c) {
 
 static void end_program(int process);
 
-/* Numbers up to this one aren't given, if it is of the lower half: a program that names a greater one would use up the
- * numbers of all. */
+/* Lets a table skip all numbers up to this number, if it is of the lower half. A program that names a greater
+ * number would use up the numbers of all programs. */
 static void skip_up_to(enum table table, int number) {
     const struct names *names = &k->tables[table];
     int next = number_at(names, k->next[table]);
-    if (number >= next && (uint32_t)number >> names->bits < names->turns / 2) k->next[table] += (uint64_t)(number - next) + 1;
+    if (number >= next && (uint32_t)number >> names->bits < names->turns / 2)
+        k->next[table] += (uint64_t)(number - next) + 1;
 }
 
-/* A program may still use numbers of an earlier daemon. They name nothing here. */
+/* Skips the numbers that a program had of an earlier daemon. The program may still use
+ * them. They name nothing here. */
 static void skip_numbers(const struct wire_ask *a) {
     skip_up_to(CHANNELS, a->states);
     skip_up_to(CONNECTIONS, (int)a->flags & ~SIDE);
@@ -126,15 +134,18 @@ static void skip_numbers(const struct wire_ask *a) {
 
 static void join_process(struct client *c, const struct wire_ask *a) {
     int other = process_of(c->peer.pid);
-    if (other && has_ended(processes[other].pidfd)) end_program(other), other = 0;
+    if (other && has_ended(processes[other].pidfd)) {
+        end_program(other);
+        other = 0;
+    }
     int error = a->number != WIRE_VERSION ? ENOEXEC : other ? EBUSY : take_place(c);
     if (!error) skip_numbers(a);
     c->answer.count = (uint32_t)limits.processes;
     put_result(c, error, processes[c->process].scoid);
 }
 
-/* The process that a thread's socket is of, or 0. A pid may be that of a later program, but not while the program that
- * has it lives, and has connected first. */
+/* The process to which a thread's socket belongs, or 0. A pid may belong to a later program by now. It
+ * doesn't if the program that has the pid still lives and connected before the thread. */
 static int process_of_thread(const struct client *c) {
     int process = process_of(c->peer.pid);
     bool is_of_it = process && c->came_as > processes[process].came_as && !has_ended(processes[process].pidfd);
@@ -145,10 +156,14 @@ static int process_of_thread(const struct client *c) {
 static void join_thread(struct client *c, const struct wire_ask *a) {
     int process = process_of_thread(c), seat = 0;
     while (process && seat < PLACES && (k->places[seat].pid != process || client_of[seat])) seat++;
-    int error = !process ? ESRCH : thread_of(process, a->number) ? EBUSY : seat == PLACES ? EAGAIN : 0;
+    int error = 0;
+    if (!process) error = ESRCH;
+    else if (thread_of(process, a->number)) error = EBUSY;
+    else if (seat == PLACES) error = EAGAIN;
     int files[2] = {-1, -1};
     if (a->number < 1 || a->number > UINT8_MAX || a->value < 1 || a->value > UINT8_MAX) error = EINVAL;
-    if (!error && !open_box(c, files)) error = errno == EMFILE ? ENFILE : errno; /* of the daemon, not the program */
+    /* EMFILE is about the daemon's files, not the program's. */
+    if (!error && !open_box(c, files)) error = errno == EMFILE ? ENFILE : errno;
     if (!error) {
         struct place *p = &k->places[seat];
         balsaeuchre_request request = balsaeuchre_request_of(BALSAEUCHRE_PRIORITY_SET, clock_of(process), 0);
@@ -172,7 +187,7 @@ static void join_thread(struct client *c, const struct wire_ask *a) {
     if (files[0] != -1) close(files[0]);
 }
 
-/* A thread whose socket has ended leaves its seat, once it has no open call. */
+/* A thread whose socket has ended leaves its seat. It must have no open call. */
 static void leave_seat(struct client *c) {
     c->place->joined = false;
     client_of[c->place - k->places] = NULL;
@@ -180,7 +195,8 @@ static void leave_seat(struct client *c) {
     gone--;
 }
 
-/* Returns the processes, each as a bit, of which a thread has left. */
+/* Frees the seats of threads whose sockets have ended, unless they have an open call. Returns a bit for each
+ * process of such a thread. */
 static uint32_t leave_free_seats(void) {
     uint32_t left = 0;
     for (int at = 0; gone && at < PLACES; at++) {
@@ -208,8 +224,8 @@ static bool carries_message(int coid) {
     return false;
 }
 
-/* Detaches the connections of a program that has ended, but those whose messages wait for their servers, which by force
- * go, too. */
+/* Detaches the connections of a program that has ended. Connections with held messages stay, unless
+ * by_force. */
 static void detach_connections(int process, bool by_force) {
     processes[process].retries = false;
     for (int at = 0; at < CONNECTION_PLACES; at++) {
@@ -222,7 +238,8 @@ static void detach_connections(int process, bool by_force) {
     }
 }
 
-/* The place of a program that has ended is free once it has no connection and no thread. */
+/* Detaches the connections of a program that has ended. Its place is free once it has no
+ * connection and no thread. */
 static void end_connections(int process, bool by_force) {
     bool retried = processes[process].retries, left = false;
     detach_connections(process, by_force);
@@ -251,7 +268,7 @@ static void end_socket(struct client *c) {
     if (c->place) gone++;
 }
 
-/* The calls of a program that has ended are unblocked. Those that stay open wait for their servers' answers. */
+/* Unblocks the calls of a program that has ended. Calls that stay open wait for their servers' replies. */
 static void unblock_calls(int process) {
     for (int at = 0; at < PLACES; at++) {
         struct client *c = client_of[at];
@@ -261,12 +278,12 @@ static void unblock_calls(int process) {
     }
 }
 
-/* A program has ended: so have its threads, and all that is its. */
+/* Ends a program with its threads, channels, calls and connections. */
 static void end_process(int process) {
     static uint64_t ends;
     struct process *ended = &processes[process];
     ended->ended_as = ++ends;
-    epoll_ctl(events, EPOLL_CTL_DEL, ended->pidfd, NULL); /* others may have it still */
+    epoll_ctl(events, EPOLL_CTL_DEL, ended->pidfd, NULL); /* other processes may still have it */
     close(ended->pidfd);
     ended->pidfd = -1;
     for (int at = 0; at < PLACES; at++) {
@@ -277,8 +294,8 @@ static void end_process(int process) {
     end_connections(process, false);
 }
 
-/* A socket has ended, or its packets are malformed. If it is a thread's that is in a call, its program has most likely
- * been killed, and its own socket ends in a moment. So the call is ended a little later. */
+/* A socket has ended, or its requests are malformed. If its thread is in a call, its program has most likely
+ * been killed, and the program's own socket ends in a moment. So the call is ended a little later. */
 static void hang_up(struct client *c) {
     int process = c->process;
     bool is_process = c->is_process;
@@ -290,19 +307,19 @@ static void hang_up(struct client *c) {
     leave_seats();
 }
 
-/* The process of a program has ended, whoever has its socket. */
+/* A program's process has ended. Other processes may still have its sockets. */
 static void end_program(int process) {
     for (int at = 0; at < CLIENTS; at++) {
         if (clients[at].is_process && clients[at].process == process) hang_up(&clients[at]);
     }
 }
 
-/* What the epoll says of a pidfd is the address of its place. */
+/* Whether an address is a place. The epoll reports a pidfd by the address of its place. */
 static bool is_place(const void *address) {
     return (uintptr_t)address >= (uintptr_t)processes && (uintptr_t)address < (uintptr_t)(processes + PROCESSES);
 }
 
-/* A pidfd has news. Another program may have the place since then. */
+/* A pidfd has news. Another program may have the place by now. */
 static void look_at_program(struct process *of) {
     if (of->peer.pid && !of->ended_as && has_ended(of->pidfd)) end_program((int)(of - processes));
 }

@@ -1,12 +1,15 @@
-/* Records the calls of all programs as a script with names, which `qdemo script` makes again. Tested, not proved.
+/* Records the calls of all programs as a script with names, which `qdemo script` makes
+ * again. Tested, not proved.
  *
- * A thread has the name of its seat: program1.2 is the second one of the first program. Comments say who takes it. */
+ * A thread has the name of its seat: program1.2 is the second seat of the first program. Comments in the
+ * record say which thread takes a seat. */
 #include "../qnx/record_lines.c"
 
 static int record = -1; /* the file; -1: nothing is recorded */
-static size_t recorded; /* its bytes */
+static size_t recorded; /* the bytes of its lines so far */
 
-/* The name that the host has for a thread, of bytes that a terminal shows. */
+/* Reads the host's name of a thread, with ? for each byte that isn't printable ASCII. If the
+ * host has no name, it is ?. */
 static void name_thread(pid_t pid, pid_t tid, char name[20]) {
     char path[60];
     snprintf(path, sizeof path, "/proc/%d/task/%d/comm", (int)pid, (int)tid);
@@ -31,7 +34,7 @@ static void add_thread(struct line *line, int tid) {
     else add(line, "program%d.%d", process, seat);
 }
 
-/* Writes a line; or ends the record, where a script would be too long or the file takes no more. */
+/* Writes a line. If the script would be too long or the file takes no more bytes, the record ends instead. */
 static void write_line(const struct line *line) {
     if (record == -1) return;
     bool fits = recorded + line->length <= WHOLE;
@@ -43,7 +46,7 @@ static void write_line(const struct line *line) {
     k->hooks.call = NULL;
 }
 
-/* The layer's hook: the kernel has made a call. */
+/* The layer's hook for each call that the kernel has made. */
 static void record_call(const balsaeuchre_request *r, const void *sent, size_t sent_len, const void *room,
                         size_t room_len, const balsaeuchre_event *event) {
     struct line line = {.length = 0};
@@ -52,7 +55,7 @@ static void record_call(const balsaeuchre_request *r, const void *sent, size_t s
     write_line(&line);
 }
 
-/* Begins the record with the threads of the kernel. */
+/* Begins the record with the kernel's threads. */
 static void record_roster(const balsaeuchre_thread *roster, size_t length) {
     struct line line = {.length = 0};
     for (size_t at = 0; record != -1 && at < length; at++) {
@@ -63,7 +66,7 @@ static void record_roster(const balsaeuchre_thread *roster, size_t length) {
     if (record != -1) k->hooks.call = record_call;
 }
 
-/* A comment: a thread of a program has taken a seat. */
+/* Writes a comment to the record: a program's thread has taken a seat. */
 static void record_seat(const struct client *c) {
     struct line line = {.length = 0};
     char name[20];

@@ -1,13 +1,14 @@
 /* The layer's calls in the daemon's kernel, and which kernel a call is for. Tested, not proved. */
 #include <stdio.h>
 
-static struct neutrino remote_kernel; /* of which only the process is used */
+static struct neutrino remote_kernel; /* only its process is used */
 static bool is_remote;
 static int program_socket = -1, program_scoid;
-static bool reconnects; /* after the daemon's end the program connects to the next one */
+static bool reconnects;             /* after the daemon's end the program connects to the next one */
 static int files[UINT8_MAX + 1][2]; /* sockets and bells by tid, for a forked child to close; -1: none */
-static volatile int last_chid, last_coid, last_rcvid; /* the greatest that the program has had, for the next daemon */
-static pthread_mutex_t asking = PTHREAD_MUTEX_INITIALIZER; /* over the program's socket and the table */
+/* The greatest numbers that the program has had, for the next daemon. */
+static volatile int last_chid, last_coid, last_rcvid;
+static pthread_mutex_t asking = PTHREAD_MUTEX_INITIALIZER; /* of program_socket and files */
 
 static _Thread_local struct place own_place;
 static _Thread_local uint32_t calls;
@@ -25,7 +26,8 @@ static bool has_ended(int fd) {
     return length == 0 || (length == -1 && errno != EAGAIN && errno != EINTR);
 }
 
-/* Connects the program to the daemon that runs now, if no thread has done so yet. Returns 0, or -1 and sets errno. */
+/* Connects the program to the daemon that runs now, unless another thread has already done that.
+ * Returns 0, or -1 and sets errno. */
 static int reopen_program(void) {
     pthread_mutex_lock(&asking);
     int old = program_socket, scoid = has_ended(old) ? open_program_socket() : program_scoid, error = errno;
@@ -35,8 +37,8 @@ static int reopen_program(void) {
     return scoid == -1 ? fail(error) : 0;
 }
 
-/* Connects the program again, and the calling thread. A call that finds the daemon gone fails, as nobody knows what
- * came of it, and the thread's next call comes here. */
+/* Connects the program and the calling thread again. A call that finds the daemon gone fails, because nobody
+ * knows its outcome. The thread's next call comes here. */
 static int connect_again(void) {
     if (reopen_program()) return -1;
     if (self) {
@@ -50,7 +52,7 @@ static int connect_again(void) {
 
 /* ---- asking */
 
-/* Asks by the thread's box, or else the program's socket. */
+/* Sends a request by the thread's box, or by the program's socket if the thread hasn't joined. */
 static long ask_once(struct wire_ask *ask, const struct iovec sent[2], struct wire_answer *answer, struct iovec room) {
     long result;
     ask->sent_len = (uint32_t)sent[0].iov_len;
@@ -68,7 +70,7 @@ static long ask_once(struct wire_ask *ask, const struct iovec sent[2], struct wi
     return result;
 }
 
-/* Asks, and waits. Returns the result, or fails with the daemon's error. */
+/* Sends a request, and waits for the answer. Returns the result, or fails with the daemon's error. */
 static long ask_with(struct wire_ask *ask, const struct iovec sent[2], struct wire_answer *answer, struct iovec room) {
     int cancel, ignored;
     if (inside || program_socket == -1) return fail(inside ? EDEADLK : ESHUTDOWN);
@@ -83,7 +85,7 @@ static long ask_with(struct wire_ask *ask, const struct iovec sent[2], struct wi
     return result;
 }
 
-/* Asks with bytes, or without any. */
+/* Sends a request with one buffer of bytes, which may be empty. */
 static long ask_daemon(struct wire_ask *ask, struct iovec bytes, struct wire_answer *answer, struct iovec room) {
     return ask_with(ask, (struct iovec[2]){bytes, {NULL, 0}}, answer, room);
 }
@@ -97,7 +99,7 @@ static long ask_about(uint32_t op, int number) { return ask_plainly(&(struct wir
 
 /* ---- calls */
 
-/* Keeps what a connection to the next daemon needs. */
+/* Keeps the results that a connection to the next daemon needs. */
 static void keep_result(const struct call *c, int result) {
     int kind = c->request.kind, coid = result & ~SCOID;
     if (kind == BALSAEUCHRE_PRIORITY_SET && c->request.target == self->tid) own.priority = c->request.priority;
@@ -106,15 +108,21 @@ static void keep_result(const struct call *c, int result) {
     if (kind == BALSAEUCHRE_RECEIVE && result > last_rcvid) last_rcvid = result;
 }
 
-/* Makes a call, with what the layer does not know of it, and waits for its end. */
+/* Makes a call with the fields that the layer's struct call doesn't have, and waits for its completion. */
 static long call_with(struct call *c, uint64_t value, pid_t pid, unsigned flags) {
     struct wire_answer answer = {.error = 0};
     bool sends = c->request.kind == BALSAEUCHRE_SEND;
     struct iovec sent[2] = {{(void *)(uintptr_t)c->sent, c->sent_len}, {c->room, sends ? c->room_len : 0}};
     if (refuse_call()) return -1;
-    struct wire_ask ask = {.op = OP_CALL, .call = ++calls ? calls : ++calls, .number = c->number, .pid = pid,
-                           .states = self->states, .flags = flags | (c->own_priority ? WIRE_OWN_PRIORITY : 0),
-                           .time = self->time, .value = value, .room_len = (uint32_t)c->room_len,
+    struct wire_ask ask = {.op = OP_CALL,
+                           .call = ++calls ? calls : ++calls,
+                           .number = c->number,
+                           .pid = pid,
+                           .states = self->states,
+                           .flags = flags | (c->own_priority ? WIRE_OWN_PRIORITY : 0),
+                           .time = self->time,
+                           .value = value,
+                           .room_len = (uint32_t)c->room_len,
                            .request = c->request};
     self->states = 0;
     long result = ask_with(&ask, sent, &answer, (struct iovec){c->room, c->room_len});
@@ -141,7 +149,7 @@ enum { PATH = sizeof((struct sockaddr_un *)0)->sun_path };
 static char system_word[PATH]; /* BALSAEUCHRE_SYSTEM, as it was when the kernel was opened */
 static char system_path[PATH]; /* its absolute path: the environment and the folder may change */
 
-/* In a forked child, which has the sockets of its parent, but none of its threads. */
+/* Runs in a forked child, which has its parent's sockets, but not its parent's threads. */
 static void forget_sockets(void) {
     if (!is_remote) return;
     for (int at = 0; at < 2 * (UINT8_MAX + 1); at++) {
@@ -153,12 +161,15 @@ static void forget_sockets(void) {
     own.box = NULL; /* a child doesn't have it */
     own.is_lost = false;
     open_call = 0;
-    self = NULL; /* where a handler has interrupted a call, the child is inside it still, and may make no other */
+    /* If a handler that interrupted a call has forked, the child is still inside the
+     * call. It may make no other. */
+    self = NULL;
     is_remote = false;
     pthread_mutex_init(&asking, NULL);
 }
 
-/* Keeps the absolute path of the daemon's socket. A forked child, which opens it again, may be in another folder. */
+/* Keeps the absolute path of the daemon's socket. A forked child opens it again, and
+ * may be in another folder. */
 static int keep_path(const char *word) {
     char folder[PATH] = "";
     if (strcmp(word, system_word) == 0) return 0;
@@ -169,44 +180,53 @@ static int keep_path(const char *word) {
     return 0;
 }
 
-/* No daemon can be asked, which is said once. */
+/* Reports on standard error, once, that no daemon can be reached. Returns null. */
 static neutrino *refuse_path(const char *path) {
     static atomic_bool said;
     int error = errno;
-    if (error != EPERM && !atomic_exchange(&said, true)) /* may_ask has said so of EPERM */
+    if (error != EPERM && !atomic_exchange(&said, true)) /* may_ask has reported EPERM */
         dprintf(STDERR_FILENO, "balsaeuchre: no balsaeuchred at %s: %s%s\n", path, strerror(error),
                 error == ENAMETOOLONG ? ": its absolute path has at most 107 bytes" : "");
     errno = error == ENOENT || error == ECONNREFUSED ? ESHUTDOWN : error;
     return NULL;
 }
 
-/* The daemon doesn't take this program, which is said once. places are those of programs. */
+/* Reports on standard error, once, why the daemon refuses this program. places is the
+ * number of places for programs. */
 static void say_refusal(int error, unsigned places) {
     static atomic_bool said;
     const char *path = system_path;
     if (error == ESHUTDOWN || atomic_exchange(&said, true)) return;
     if (error == EAGAIN && places)
-        dprintf(STDERR_FILENO, "balsaeuchre: the balsaeuchred at %s has places for %u programs, and all are taken: its "
-                "option --processes gives more\n", path, places);
+        dprintf(STDERR_FILENO,
+                "balsaeuchre: the balsaeuchred at %s has places for %u programs, and all are taken: its "
+                "option --processes gives more\n",
+                path, places);
     else if (error == ENFILE)
-        dprintf(STDERR_FILENO, "balsaeuchre: the balsaeuchred at %s can open no further file: start it with a greater "
-                "limit (ulimit -n)\n", path);
+        dprintf(STDERR_FILENO,
+                "balsaeuchre: the balsaeuchred at %s can open no further file: start it with a greater "
+                "limit (ulimit -n)\n",
+                path);
     else if (error == EACCES)
-        dprintf(STDERR_FILENO, "balsaeuchre: the balsaeuchred at %s takes no programs of user %u: its option --group "
-                "names a group that it takes\n", path, geteuid());
+        dprintf(STDERR_FILENO,
+                "balsaeuchre: the balsaeuchred at %s takes no programs of user %u: its option --group "
+                "names a group that it takes\n",
+                path, geteuid());
     else if (error == ENOEXEC)
-        dprintf(STDERR_FILENO, "balsaeuchre: the balsaeuchred at %s is of another release: expected one that takes "
-                "version %d\n", path, WIRE_VERSION);
+        dprintf(STDERR_FILENO,
+                "balsaeuchre: the balsaeuchred at %s is of another release: expected a daemon that "
+                "takes version %d\n",
+                path, WIRE_VERSION);
     else
         dprintf(STDERR_FILENO, "balsaeuchre: the balsaeuchred at %s refuses this program: %s\n", path, strerror(error));
 }
 
-/* Opens the program's socket. Returns its scoid, or -1 and sets errno. */
+/* Opens the program's socket. Returns the program's scoid, or -1 and sets errno. */
 static int open_program_socket(void) {
     struct iovec none = {NULL, 0};
     struct wire_answer answer = {.error = 0};
-    struct wire_ask ask = {.op = OP_PROCESS, .number = WIRE_VERSION, .states = last_chid, .flags = (unsigned)last_coid,
-                           .pid = last_rcvid};
+    struct wire_ask ask = {
+        .op = OP_PROCESS, .number = WIRE_VERSION, .states = last_chid, .flags = (unsigned)last_coid, .pid = last_rcvid};
     int fd = connect_to(system_path);
     if (fd == -1) return refuse_path(system_path) ? 0 : -1;
     int scoid = (int)exchange(fd, &ask, none, &answer, none, NULL), error = errno;
@@ -241,7 +261,7 @@ neutrino *neutrino_open_version(uint32_t version, const struct neutrino_thread *
     return path && *path ? open_remote(path) : open_here(version, threads, count);
 }
 
-/* Notes the files of a thread, or none. */
+/* Notes the files of a thread. -1: none. */
 static void note_files(int tid, int socket, int bell) {
     pthread_mutex_lock(&asking);
     files[tid][0] = socket;
@@ -251,21 +271,24 @@ static void note_files(int tid, int socket, int bell) {
 
 enum { USUAL_PRIORITY = 10, SECOND = 1000000000 };
 
-/* A thread waits for a place, which is said once if it has waited for a second. */
+/* A thread waits for a place. Reports this on standard error, once, when the thread has waited for a
+ * second. */
 static void say_waiting(unsigned places) {
     static atomic_bool said;
     static _Thread_local uint64_t since;
     uint64_t time = now();
-    if (!since || time - since > 20 * (uint64_t)SECOND) since = time; /* another wait than the last one */
+    if (!since || time - since > 20 * (uint64_t)SECOND) since = time; /* a new wait */
     if (!places || time - since < SECOND || atomic_exchange(&said, true)) return;
-    dprintf(STDERR_FILENO, "balsaeuchre: a thread waits for a place: this program has %u in the balsaeuchred at %s, "
-            "whose option --threads gives more\n", places, system_path);
+    dprintf(STDERR_FILENO,
+            "balsaeuchre: a thread waits for a place: this program has %u in the balsaeuchred at %s, "
+            "whose option --threads gives more\n",
+            places, system_path);
 }
 
-/* Opens the calling thread's box, and notes its files. */
+/* Opens the calling thread's box, and notes its files. Returns 0, or -1 and sets errno. */
 static int open_thread(int tid, int priority) {
-    struct wire_ask ask = {.op = OP_THREAD, .number = tid, .value = (uint64_t)priority,
-                           .pid = (int32_t)syscall(SYS_gettid)};
+    struct wire_ask ask = {
+        .op = OP_THREAD, .number = tid, .value = (uint64_t)priority, .pid = (int32_t)syscall(SYS_gettid)};
     struct wire_answer answer = {.error = 0};
     if (open_box(system_path, &ask, &answer)) {
         int error = errno;
@@ -299,7 +322,7 @@ int neutrino_leave(void) {
     if (!is_remote) return leave_here();
     if (refuse_call()) return -1;
     note_files(self->tid, -1, -1);
-    shutdown(own.socket, SHUT_RDWR); /* a forked child may have it, too, for a moment */
+    shutdown(own.socket, SHUT_RDWR); /* a forked child may also have it for a moment */
     close_box();
     self = NULL;
     return 0;
@@ -315,7 +338,7 @@ int neutrino_look(neutrino *k, struct neutrino_blocked *all) {
 
 /* ---- interruptions */
 
-/* Asks the daemon to end the open call of this thread, which it may not have taken yet. */
+/* Asks the daemon to end the open call of this thread, which the daemon may not have taken yet. */
 void neutrino_interrupt(void) {
     if (!is_remote) {
         interrupt_here();

@@ -1,7 +1,7 @@
-/* What the front of foreign/qnx asks of the daemon beside the layer's calls. Tested, not proved.
+/* Requests of QNX's front (foreign/qnx) to the daemon, in addition to the layer's calls. Tested, not proved.
  *
- * Where the environment has BALSAEUCHRE_SYSTEM, the kernel is that of the daemon whose socket it names. All functions
- * return -1 and set errno on an error. */
+ * If the environment names a daemon's socket in BALSAEUCHRE_SYSTEM, the kernel is this daemon's. All
+ * functions return -1 and set errno on an error. */
 #ifndef BALSAEUCHRE_REMOTE_H
 #define BALSAEUCHRE_REMOTE_H
 
@@ -11,7 +11,7 @@
 
 struct wire_client;
 
-/* Whether the program's kernel is the daemon's. */
+/* Whether the program uses a daemon's kernel. */
 bool neutrino_remote(void);
 
 /* The program's scoid. */
@@ -28,17 +28,17 @@ int neutrino_remote_find(const char *name, pid_t *pid);
 
 int neutrino_remote_client(int scoid, struct wire_client *client);
 
-/* Returns a new pidfd of the program that an rcvid is from, and writes its pid. */
+/* Returns a new pidfd of the program that sent the message of an rcvid, and writes its pid. */
 int neutrino_remote_sender(int rcvid, pid_t *pid);
 
-/* Delivers a pulse, or only tests whether it could be. */
+/* Delivers a pulse, or only tests whether it could be delivered. */
 int neutrino_remote_deliver(int rcvid, const struct sigevent *event, bool delivers);
 int neutrino_remote_unblock(int rcvid);
 
-/* A thread of the program has ended. */
+/* Reports to the daemon that a thread of the program has ended. */
 void neutrino_remote_death(int tid);
 
-/* Prints what pidin prints. */
+/* Prints the text of pidin to a file. */
 int neutrino_remote_show(int fd);
 
 #endif

@@ -1,6 +1,6 @@
-/* What programs ask of the daemon beside calls: names, clients, events. Tested, not proved. */
+/* Requests of programs other than calls: names, clients, events. Tested, not proved. */
 
-/* Reads a name that an ask brings. Returns an errno or 0. */
+/* Reads the name in a request's bytes. Returns an errno or 0. */
 static int read_name(const struct wire_ask *a, const uint8_t *bytes, char name[WIRE_NAME]) {
     if (!a->sent_len || a->sent_len >= WIRE_NAME) return EINVAL;
     copy_once(name, bytes, a->sent_len);
@@ -8,7 +8,7 @@ static int read_name(const struct wire_ask *a, const uint8_t *bytes, char name[W
     return strlen(name) == a->sent_len ? 0 : EINVAL;
 }
 
-/* The place of a name's channel, or -1. */
+/* The place of the channel with this name, or -1. */
 static int find_name(const char *name) {
     for (int at = 0; at < CHANNEL_PLACES; at++) {
         if (*names[at] && !strcmp(names[at], name)) return at;
@@ -49,7 +49,7 @@ static void tell_client(struct client *c, const struct wire_ask *a) {
     put_answer(c, known ? 0 : EINVAL, 0, &told_client, known ? sizeof told_client : 0);
 }
 
-/* Whether a process is connected to a channel of another one, which it is a client of, then. */
+/* Whether a process is a client of a server, that is, connected to a channel of the server. */
 static bool is_client(int process, int server) {
     for (int at = 0; at < CONNECTION_PLACES; at++) {
         const struct name *name = &k->connections[at];
@@ -60,7 +60,8 @@ static bool is_client(int process, int server) {
     return false;
 }
 
-/* Whether a message's number was given since a program joined. Of the serials that have this number, it is the last. */
+/* Whether a message's number was given after a program joined. If several serials have this
+ * number, the last one counts. */
 static bool is_since(int number, const struct process *of) {
     const struct names *names = &k->tables[MESSAGES];
     int back = number_at(names, k->next[MESSAGES] - 1) - number;
@@ -68,7 +69,8 @@ static bool is_since(int number, const struct process *of) {
     return number > 0 && of->first + (uint64_t)back < k->next[MESSAGES];
 }
 
-/* The process that an rcvid of this program is from: the program itself for 0. 0: there is none, or it has ended. */
+/* The process whose program sent the message of an rcvid of this program. For rcvid 0, this program's
+ * process. Returns 0 if there is none, if it has ended, or if it isn't a client of this program. */
 static int process_of_rcvid(const struct client *c, int rcvid) {
     int process = rcvid ? rcvid & ((1 << SLOT_BITS) - 1) : c->process;
     const struct process *of = &processes[process];
@@ -77,8 +79,8 @@ static int process_of_rcvid(const struct client *c, int rcvid) {
     return is_since(number_of_rcvid(rcvid), of) && is_client(process, c->process) ? process : 0;
 }
 
-/* The answer brings the pidfd, so that the host asks whether the server may signal that program, and no pid leads to a
- * later process. */
+/* The answer brings the pidfd of the sender's program. So the host decides whether the server may signal that
+ * program, and no signal reaches a later process with its pid. */
 static void tell_sender(struct client *c, const struct wire_ask *a) {
     int process = process_of_rcvid(c, a->number);
     c->answer.error = process ? 0 : ESRCH;
@@ -95,7 +97,10 @@ static void deliver_event(struct client *c, const struct wire_ask *a) {
     if (a->flags & WIRE_OWN_PRIORITY) request.priority = c->place ? priority_of(k, c->place) : USUAL;
     struct note content = {.chid = chid, .scoid = processes[c->process].scoid, .code = a->request.pulse_code};
     content.value = (int64_t)a->value;
-    int error = !process ? ESRCH : !id ? EBADF : !request.priority ? EINVAL : 0;
+    int error = 0;
+    if (!process) error = ESRCH;
+    else if (!id) error = EBADF;
+    else if (!request.priority) error = EINVAL;
     if (!error && !(a->flags & WIRE_TESTS)) error = has_room(chid) ? send_pulse(request, &content) : EAGAIN;
     put_result(c, error, 0);
 }
@@ -107,7 +112,7 @@ static void unblock_sender(struct client *c, const struct wire_ask *a) {
     put_result(c, p ? 0 : ESRCH, 0);
 }
 
-/* A thread of the program is cancelled: its call ends, and each later one that has to wait. */
+/* Cancels a thread of the program: ends its call, and each later call that has to wait. */
 static void cancel_thread(struct client *c, const struct wire_ask *a) {
     struct client *target = thread_of(c->process, a->number);
     if (target) target->place->cancelled = true;

@@ -1,7 +1,7 @@
-/* What pidin prints. Tested, not proved. */
+/* The text that pidin prints. Tested, not proved. */
 #include "printable.h"
 
-/* Prints on whom a thread is blocked. */
+/* Prints the channel, the thread and the process on which a thread is blocked. */
 static void show_blocked(FILE *to, const struct neutrino_blocked *blocked) {
     int place = k->place_of[blocked->server], owner = k->channels[place_in(&k->tables[CHANNELS], blocked->chid)].owner;
     const struct client *whom = place == PLACES ? NULL : client_of[place];
@@ -13,7 +13,7 @@ static void show_blocked(FILE *to, const struct neutrino_blocked *blocked) {
     fprintf(to, "\n");
 }
 
-/* The priority of a thread, which may be blocked. So the daemon's own thread asks. */
+/* The priority of a thread. The thread may be blocked, so the daemon's own thread makes the call. */
 static int shown_priority(const struct place *p) {
     balsaeuchre_request request = balsaeuchre_request_of(BALSAEUCHRE_STATE, SYSTEM, 0);
     request.target = p->tid;
@@ -27,8 +27,12 @@ static void show_thread(FILE *to, const struct client *c) {
     pid_t pid = processes[c->process].peer.pid;
     name_thread(pid, c->host_tid, name);
     fprintf(to, "%8d %3d %-15s %4d ", (int)pid, c->tid, name, shown_priority(c->place));
-    if (blocked.state == STATE_READY) fprintf(to, "READY\n");
-    else fprintf(to, "%-8s ", states[blocked.state]), show_blocked(to, &blocked);
+    if (blocked.state == STATE_READY) {
+        fprintf(to, "READY\n");
+    } else {
+        fprintf(to, "%-8s ", states[blocked.state]);
+        show_blocked(to, &blocked);
+    }
 }
 
 static void show_channel(FILE *to, int place) {

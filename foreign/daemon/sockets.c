@@ -1,19 +1,21 @@
-/* Sockets and boxes: answers, and the bytes of calls. None waits. Tested, not proved.
+/* Sockets and boxes: answers, and the bytes of calls. No function waits. Tested, not proved.
  *
- * A box is the daemon's memory, whose length is sealed, and which its thread may change at any time. So an ask is
- * copied before it is looked at, and each of its words is read once. */
+ * A box is memory of the daemon, and its length is sealed. Its thread may change the content at any time. So
+ * the daemon copies a request before it looks at it, and reads each word once. */
 #include <linux/futex.h>
 #include <sys/eventfd.h>
 #include <sys/mman.h>
 #include <sys/syscall.h>
 #include <sys/uio.h>
 
-static int events;      /* the epoll */
-static const char bell; /* its address is what the epoll says of any bell, after which all boxes are looked at */
+static int events; /* the epoll */
+/* In the epoll its address marks any bell. After a bell all boxes are looked at. */
+static const char bell;
 
 typedef uint64_t __attribute__((may_alias)) box_word;
 
-/* Copies bytes that a program may change meanwhile. Each is read once. They begin at a whole word. */
+/* Copies bytes that a program may change meanwhile. Reads each byte once. from has the alignment of a
+ * word. */
 static void copy_once(void *to, const void *from, size_t length) {
     const box_word *words = from;
     const uint8_t *bytes = from;
@@ -30,12 +32,12 @@ static bool watch(int fd, uint32_t wanted, const void *of) {
     return !epoll_ctl(events, EPOLL_CTL_ADD, fd, &(struct epoll_event){wanted, {.ptr = (void *)(uintptr_t)of}});
 }
 
-/* Changes what the epoll says of a file. */
+/* Changes the events of a file that the epoll reports. */
 static void watch_for(int fd, uint32_t wanted, const void *of) {
     epoll_ctl(events, EPOLL_CTL_MOD, fd, &(struct epoll_event){wanted, {.ptr = (void *)(uintptr_t)of}});
 }
 
-/* Makes the box and the bell of a thread. Returns whether it could. files gets what the thread gets: both. */
+/* Makes the box and the bell of a thread. Returns whether that succeeded. files gets both, for the thread. */
 static bool open_box(struct client *c, int files[2]) {
     int file = memfd_create("balsaeuchre", MFD_CLOEXEC | MFD_ALLOW_SEALING);
     files[0] = file;
@@ -51,7 +53,7 @@ static bool open_box(struct client *c, int files[2]) {
 static void close_box(struct client *c) {
     if (c->box) munmap(c->box, sizeof *c->box);
     if (c->bell != -1) {
-        epoll_ctl(events, EPOLL_CTL_DEL, c->bell, NULL); /* its thread may have it still */
+        epoll_ctl(events, EPOLL_CTL_DEL, c->bell, NULL); /* its thread may still have it */
         close(c->bell);
     }
     c->box = NULL;
@@ -61,7 +63,10 @@ static void close_box(struct client *c) {
 /* Sends an answer as a packet, with up to two files. */
 static void send_answer(struct client *c, const void *bytes, const int *files, size_t count) {
     struct iovec parts[] = {{&c->answer, sizeof c->answer}, {(void *)(uintptr_t)bytes, c->answer.length}};
-    union { struct cmsghdr head; char room[CMSG_SPACE(2 * sizeof *files)]; } rights = {.head = {0}};
+    union {
+        struct cmsghdr head;
+        char room[CMSG_SPACE(2 * sizeof *files)];
+    } rights = {.head = {0}};
     struct msghdr packet = {.msg_iov = parts, .msg_iovlen = 2};
     if (count) {
         rights.head = (struct cmsghdr){CMSG_LEN(count * sizeof *files), SOL_SOCKET, SCM_RIGHTS};
@@ -69,11 +74,12 @@ static void send_answer(struct client *c, const void *bytes, const int *files, s
         packet.msg_control = &rights;
         packet.msg_controllen = CMSG_SPACE(count * sizeof *files);
     }
-    /* A socket that takes no answer has not read the last ones. */
+    /* If a socket takes no answer, its program has not read the last ones. */
     if (sendmsg(c->fd, &packet, MSG_NOSIGNAL | MSG_DONTWAIT) < 0) shutdown(c->fd, SHUT_RDWR);
 }
 
-static uint64_t asleep, at_socket; /* threads that have an answer, and have to be woken, by place */
+/* Threads that have an answer and have to be woken: a bit for each, by the index of its seat. */
+static uint64_t asleep, at_socket;
 
 /* Puts an answer into the box of a thread. */
 static void put_in_box(struct client *c, const void *bytes) {
@@ -84,7 +90,8 @@ static void put_in_box(struct client *c, const void *bytes) {
     if (before == WIRE_AT_SOCKET) at_socket |= bit_of(k, c->place);
 }
 
-/* Wakes threads once all have their answers, as that takes longer than those. */
+/* Wakes the threads that have an answer. This is done after all answers are written, because a wake-up
+ * takes longer than an answer. */
 static void wake_threads(void) {
     for (; asleep; asleep &= asleep - 1) {
         const struct client *c = client_of[__builtin_ctzll(asleep)];
@@ -104,12 +111,10 @@ static void put_answer(struct client *c, int error, int64_t result, const void *
     else if (c->fd != -1) send_answer(c, bytes, NULL, 0);
 }
 
-static void put_result(struct client *c, int error, int64_t result) {
-    put_answer(c, error, result, NULL, 0);
-}
+static void put_result(struct client *c, int error, int64_t result) { put_answer(c, error, result, NULL, 0); }
 
-/* Takes memory for a call's bytes, as far as its process may have so many. It isn't cleared: of the room only those
- * bytes are answered that the kernel has written, or that came with the call. */
+/* Takes memory for a call's bytes, if its process may have so many. The memory isn't cleared. An answer has
+ * only those bytes of the room that the kernel has written or that came with the call. */
 static void take_bytes(struct client *c, size_t size) {
     struct process *process = &processes[c->process];
     c->size = 0;

@@ -1,19 +1,21 @@
-/* Turns of programs with long asks. Tested, not proved.
+/* Turns of programs with long requests. Tested, not proved.
  *
- * The daemon takes one ask after another, so a long one holds up all programs while its bytes are copied. A program pays
- * for the time of its long asks: while other programs ask, too, it gets one part in SHARE of the daemon's time, and as
- * much as BURST at once. Its further asks wait in its boxes. A program that it is connected to, or that is connected to
- * it, is no other program here, as both may wait for each other; nor is one that waits for its own turn. Where nobody
- * else asks, nobody waits. */
-enum { SHARE = 20, BURST = 1000000, ACTIVE = 10000000 }; /* the last two: nanoseconds */
-enum { SOON = 500000 };                                 /* nanoseconds: when asks that wait are looked at again */
+ * The daemon takes one request after another, so a long request delays all programs while its bytes are
+ * copied. A program pays for the time of its long requests. While other programs also make requests, it gets
+ * one part in SHARE of the daemon's time, and up to BURST at once. Its further requests wait in its boxes.
+ * Two kinds of programs don't count as others here. The first kind is connected to the program, or the
+ * program to it, so both may wait for each other. The second kind waits for its own turn. If no other program
+ * makes requests, no program waits. */
+enum { SHARE = 20, BURST = 1000000, ACTIVE = 10000000 }; /* BURST, ACTIVE: nanoseconds */
+/* Nanoseconds until requests that wait are looked at again. */
+enum { SOON = 500000 };
 
 static uint64_t turn;  /* the time at which the boxes are looked at */
-static bool has_later; /* an ask waits for its program's turn */
+static bool has_later; /* a request waits for its program's turn */
 
 static bool is_over_share(const struct process *of) { return of->due > turn + SHARE * (uint64_t)BURST; }
 
-/* The processes that are connected to this one, or it to them, each as a bit. */
+/* A bit for each process that is connected to this process, or to which this process is connected. */
 static uint32_t partners_of(int process) {
     uint32_t found = 0;
     for (int at = 0; at < CONNECTION_PLACES; at++) {
@@ -26,7 +28,7 @@ static uint32_t partners_of(int process) {
     return found;
 }
 
-/* Whether another program has asked a short time ago, and doesn't wait for its turn itself. */
+/* Whether another program has made a request within ACTIVE, and doesn't wait for its own turn. */
 static bool others_ask(int process) {
     uint32_t partners = processes[process].partners | 1u << process;
     for (int at = 1; at <= limits.processes; at++) {
@@ -36,14 +38,14 @@ static bool others_ask(int process) {
     return false;
 }
 
-/* Whether the next ask of a program is taken now. */
+/* Whether the next request of a program is taken now. */
 static bool has_turn(int process) {
     bool waits = is_over_share(&processes[process]) && others_ask(process);
     has_later |= waits;
     return !waits;
 }
 
-/* Lets a program pay for a long ask that was taken at this time. */
+/* Lets a program pay for a long request that was taken at the time since. */
 static void pay_for_ask(int process, uint64_t since) {
     struct process *of = &processes[process];
     if (of->due < since) of->due = since;

@@ -1,7 +1,8 @@
 /* The version of the daemon and of pidin. Tested, not proved. */
 #include "balsaeuchre.h"
 
-/* Prints it, and whether the library of this install is unproved. Returns the status of main. */
+/* Prints the version, and "unproved" if the library of this install is unproved. Returns the status of
+ * main. */
 static int print_version(const char *program) {
     const uint32_t number = BALSAEUCHRE_VERSION & ~BALSAEUCHRE_UNPROVED;
     const char *proof = BALSAEUCHRE_VERSION & BALSAEUCHRE_UNPROVED ? ", unproved" : "";

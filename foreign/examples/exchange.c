@@ -1,5 +1,5 @@
-/* A server and its clients, from C: each of the calls, and its endings.
- * exchange          prints the endings of a run
+/* A server and its clients in C: each call, with its completions.
+ * exchange          prints the completions of a run
  * exchange --time N times N rounds of Send, Receive and Reply */
 #define _POSIX_C_SOURCE 199309L
 #include "balsaeuchre.h"
@@ -11,9 +11,8 @@
 
 enum { SERVER = 1, CLIENT = 2, OTHER = 3 };
 
-static const char *const error_names[] = {"ok",       "srch", "badf",      "inval",     "again",
-                                          "intr",     "busy", "nomemory",  "down",      "exhausted",
-                                          "tracefull", "nothread", "closed", "isopen"};
+static const char *const error_names[] = {"ok",       "srch", "badf",      "inval",     "again",    "intr",   "busy",
+                                          "nomemory", "down", "exhausted", "tracefull", "nothread", "closed", "isopen"};
 static const char *const state_names[] = {"", "ready", "send-blocked", "receive-blocked", "reply-blocked"};
 
 static balsaeuchre kernel = BALSAEUCHRE_NONE;
@@ -29,27 +28,46 @@ static void show_pulse(const balsaeuchre_ending *e) {
 
 static void show_mark(const balsaeuchre_ending *e) {
     switch (e->mark) {
-    case BALSAEUCHRE_DONE: printf("done"); break;
-    case BALSAEUCHRE_FAILED: printf("failed %s", error_names[e->errno_]); break;
-    case BALSAEUCHRE_CHANNEL: printf("channel %llu", (unsigned long long)e->id); break;
-    case BALSAEUCHRE_CONNECTION: printf("connection %llu", (unsigned long long)e->id); break;
-    case BALSAEUCHRE_REPLIED: printf("replied %lld, %zu copied", (long long)e->status, e->count); break;
-    case BALSAEUCHRE_MESSAGE: printf("message %llu, %zu copied", (unsigned long long)e->rcvid, e->count); break;
-    case BALSAEUCHRE_ERRORED: printf("errored %d", (int)e->value); break;
-    case BALSAEUCHRE_COUNT: printf("%zu copied", e->count); break;
+    case BALSAEUCHRE_DONE:
+        printf("done");
+        break;
+    case BALSAEUCHRE_FAILED:
+        printf("failed %s", error_names[e->errno_]);
+        break;
+    case BALSAEUCHRE_CHANNEL:
+        printf("channel %llu", (unsigned long long)e->id);
+        break;
+    case BALSAEUCHRE_CONNECTION:
+        printf("connection %llu", (unsigned long long)e->id);
+        break;
+    case BALSAEUCHRE_REPLIED:
+        printf("replied %lld, %zu copied", (long long)e->status, e->count);
+        break;
+    case BALSAEUCHRE_MESSAGE:
+        printf("message %llu, %zu copied", (unsigned long long)e->rcvid, e->count);
+        break;
+    case BALSAEUCHRE_ERRORED:
+        printf("errored %d", (int)e->value);
+        break;
+    case BALSAEUCHRE_COUNT:
+        printf("%zu copied", e->count);
+        break;
     case BALSAEUCHRE_INFORMED:
         printf("thread %u of process %u, priority %u, connection %llu, %zu of %zu bytes, room for %zu", e->sender,
                e->process, e->priority, (unsigned long long)e->id, e->count, e->srcmsglen, e->dstmsglen);
         break;
-    case BALSAEUCHRE_PULSED: show_pulse(e); break;
+    case BALSAEUCHRE_PULSED:
+        show_pulse(e);
+        break;
     case BALSAEUCHRE_THREAD_STATE:
         printf("%s, channel %llu, priority %u", state_names[e->state], (unsigned long long)e->id, e->priority);
         break;
-    default: exit(3);
+    default:
+        exit(3);
     }
 }
 
-/* Prints the endings of the event, or the error of the call. */
+/* Prints the completions of the event, or the error of the call. */
 static void show(const char *what, uint32_t error) {
     if (error) {
         printf("%s: no event, %s\n", what, error_names[error]);
@@ -76,7 +94,7 @@ static void open_kernel(void) {
     }
 }
 
-/* Returns whether the rows of a receive and of an Info have the same facts of the message. */
+/* Returns whether the rows of a receive and of an Info have the same data of the message. */
 static int says_same(const balsaeuchre_ending *a, const balsaeuchre_ending *b) {
     return a->sender == b->sender && a->process == b->process && a->priority == b->priority && a->id == b->id &&
            a->count == b->count && a->srcmsglen == b->srcmsglen && a->dstmsglen == b->dstmsglen;
@@ -125,11 +143,9 @@ static void show_run(void) {
     show_pulses(chid, coid);
 }
 
-static void show_answer(const char *what, uint32_t error) {
-    printf("%s: %s\n", what, error_names[error]);
-}
+static void show_answer(const char *what, uint32_t error) { printf("%s: %s\n", what, error_names[error]); }
 
-/* Prints the errors of wrong handles, requests and rosters. */
+/* Prints the errors of calls with wrong handles, requests and rosters. */
 static void show_refusals(void) {
     const balsaeuchre_thread one[] = {{1, 1, 1}, {1, 2, 3}};
     balsaeuchre none = BALSAEUCHRE_NONE;

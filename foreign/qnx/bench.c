@@ -1,5 +1,7 @@
-/* bench CLIENTS SERVERS ROUNDS: microseconds a round trip, as foreign/threads/bench.c measures it.
- * A client sends 4 bytes with room for 8, a server receives them into 16 bytes and replies with 4. */
+/* bench CLIENTS SERVERS ROUNDS
+ *
+ * Prints the microseconds of a round trip, like foreign/threads/bench.c. A client sends 4 bytes with a reply
+ * buffer of 8. A server receives them into 16 bytes, and replies with 4. */
 #include <pthread.h>
 #include <stdint.h>
 #include <stdio.h>

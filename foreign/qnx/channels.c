@@ -1,14 +1,14 @@
-/* Channels and connections, and the pulses of their ends and of threads' ends. Tested, not proved. */
+/* Channels and connections, and the pulses about the ends of connections and threads. Tested, not proved. */
 enum { DEATHS = _NTO_CHF_THREAD_DEATH | _NTO_CHF_COID_DISCONNECT };
 enum { IGNORED = _NTO_CHF_PRIVATE | _NTO_CHF_GLOBAL | _NTO_CHF_INHERIT_RUNMASK | _NTO_CHF_NOT_MERGEABLE };
 
-/* A channel that is told of ends, over a connection of the front's own process. */
+/* A channel that gets pulses about ends, over a connection of the front's own process. */
 struct told {
     int chid, coid; /* chid 0: none */
     unsigned flags;
 };
 
-/* It stands at its coid's remainder, if that place was free. */
+/* A connection. Its place in the table is the coid's remainder, or the next place that was free. */
 struct connection {
     _Atomic int coid; /* 0: none */
     int chid;
@@ -22,7 +22,7 @@ static struct connection connections[ENTRIES];
 static void forget_notes(int chid);
 static int send_noted(int coid, int chid, int priority, int code, union sigval value);
 
-/* A pulse for the channels that are told of something. */
+/* A pulse about an end, and the channels that get it. */
 struct death {
     int code, value, count;
     struct told told[CHANNELS];
@@ -50,7 +50,8 @@ static void tell_death(int tid) {
     else tell(_NTO_CHF_THREAD_DEATH, _PULSE_CODE_THREADDEATH, tid);
 }
 
-/* Returns the coid of the first connection to a channel from this entry on, and moves *at past it; or returns 0. */
+/* Returns the coid of the first connection to a channel, from the entry *at on, and sets *at to the entry
+ * after it. Returns 0 if there is none. */
 static int next_connection(int chid, int *at) {
     int coid = 0;
     hold();
@@ -61,7 +62,8 @@ static int next_connection(int chid, int *at) {
     return coid;
 }
 
-/* Tells of each connection to a channel that was destroyed. It keeps no list, since stacks may be short. */
+/* Sends a pulse about each connection to a channel that was destroyed. It makes no list of them, since stacks
+ * may be short. */
 static void tell_disconnects(int chid) {
     int at = 0;
     for (int coid; (coid = next_connection(chid, &at));) tell(_NTO_CHF_COID_DISCONNECT, _PULSE_CODE_COIDDEATH, coid);
@@ -83,7 +85,7 @@ static bool enter_told(const struct told *new) {
     return at < CHANNELS;
 }
 
-/* A new channel is told of ends. */
+/* Has a new channel get pulses about ends. If that fails, it destroys the channel. */
 static int add_told(int chid, unsigned flags) {
     struct told new = {.chid = chid, .coid = -1, .flags = flags};
     as_system(attach_told, &new);
@@ -102,7 +104,8 @@ int ChannelCreate(unsigned flags) {
     return chid == -1 || !(flags & DEATHS) ? chid : add_told(chid, flags);
 }
 
-/* Removes a channel from the table, under the lock. Returns what it had there. */
+/* Removes a channel from the table. Returns its entry, or an entry with the chid 0 if it had none. The caller
+ * has the lock. */
 static struct told take_told(int chid) {
     struct told gone = {.chid = 0};
     for (int at = 0; at < CHANNELS; at++) {
@@ -113,7 +116,8 @@ static struct told take_told(int chid) {
     return gone;
 }
 
-/* The channel leaves the kernel and the table under one lock, so the table never has more channels than the kernel. */
+/* The channel leaves the kernel and the table under one lock, so the table never has more channels than the
+ * kernel. */
 int ChannelDestroy(int chid) {
     struct told gone = {.chid = 0};
     if (enter()) return -1;
@@ -130,7 +134,7 @@ int ChannelDestroy(int chid) {
     return 0;
 }
 
-/* Returns the entry of a connection, under the lock, or null. */
+/* Returns the entry of a connection, or null. The caller has the lock, or is is_connection. */
 static struct connection *connection_of(int coid) {
     unsigned first = (unsigned)plain(coid) % CONNECTIONS;
     for (unsigned looked = 0; coid != -1 && looked < ENTRIES; looked++) {
@@ -140,10 +144,10 @@ static struct connection *connection_of(int coid) {
     return NULL;
 }
 
-/* Takes no lock, so that handlers can ask. */
+/* Returns whether there is such a connection. Takes no lock, so that signal handlers can call it. */
 static bool is_connection(int coid) { return connection_of(coid); }
 
-/* A connection as it stands; its coid is 0 if there is no such. */
+/* Returns a copy of a connection. Its coid is 0 if there is no such connection. */
 static struct connection connection_as_is(int coid) {
     hold();
     const struct connection *c = connection_of(coid);
@@ -174,7 +178,7 @@ int ConnectAttach(uint32_t nd, pid_t pid, int chid, unsigned index, int flags) {
 
 int ConnectDetach(int coid) {
     if (enter()) return -1;
-    if (is_scoid(coid)) return 0; /* it goes when the client's is detached */
+    if (is_scoid(coid)) return 0; /* it ends when the client's connection is detached */
     if (layer_ConnectDetach(plain(coid))) return -1;
     hold();
     struct connection *c = connection_of(coid);

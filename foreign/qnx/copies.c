@@ -1,8 +1,9 @@
 /* Finds another copy of the front in the program. Tested, not proved.
  *
- * A program and a library that it loads may each be linked with the front. Then each copy would open a kernel, and the
- * ids of one would mean nothing in the other. So only the first copy that makes a call opens one. Each copy has an ELF
- * note in the program's memory, from which the others find its mark. */
+ * A program and a library that it loads may each be linked with the front. Then each copy would open a
+ * kernel, and the ids of one kernel would mean nothing in the other. So only the first copy that makes a call
+ * opens a kernel. Each copy has an ELF note in the program's memory, by which the other copies find its
+ * mark. */
 #include <link.h>
 
 static atomic_int opened; /* the mark: 1 if this copy has opened a kernel */
@@ -12,7 +13,7 @@ struct copies {
     const char *own, *other;
 };
 
-/* A note, whose name is 12 bytes long; the offset leads from itself to the mark. */
+/* A note, whose name is 12 bytes long. The offset is the distance from itself to the mark. */
 struct note_of_copy {
     uint32_t name_length, offset_length, type;
     char name[12], offset[8];
@@ -48,19 +49,23 @@ static int look_at_file(struct dl_phdr_info *file, size_t size, void *found) {
     return 0;
 }
 
-/* Marks this copy as the one with the kernel. Fails with ENOTSUP, and says so once, if another copy is. */
+/* Marks this copy as the copy with the kernel. If another copy has that mark, it fails with ENOTSUP, and
+ * prints a message once. */
 static __attribute__((noinline)) int mark_copy(void) {
     static bool has_said;
     struct copies found = {"this file", NULL};
     __asm__ volatile(".pushsection .note.balsaeuchre, \"a\", @note\n"
                      ".balign 4\n.long 12, 8, 1\n.asciz \"balsaeuchre\"\n.quad %c0 - .\n"
-                     ".popsection" : : "i"(&opened));
+                     ".popsection"
+                     :
+                     : "i"(&opened));
     atomic_store(&opened, 1);
     dl_iterate_phdr(look_at_file, &found);
     if (!found.other) return 0;
     atomic_store(&opened, 0);
     if (!has_said)
-        dprintf(STDERR_FILENO, "balsaeuchre: %s has the kernel of this process, and %s was linked with another copy of the "
+        dprintf(STDERR_FILENO,
+                "balsaeuchre: %s has the kernel of this process, and %s was linked with another copy of the "
                 "library, which can't use it: link the program with -rdynamic, so that both use one copy\n",
                 found.other, found.own);
     has_said = true;

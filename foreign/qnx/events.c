@@ -7,22 +7,27 @@ static int wrong_event(const struct sigevent *event) {
     int signo = event->sigev_signo;
     switch (SIGEV_GET_TYPE(event)) {
     case SIGEV_NONE:
-    case SIGEV_UNBLOCK: return 0;
-    case SIGEV_PULSE: return wrong_pulse(event->sigev_priority, event->sigev_code);
+    case SIGEV_UNBLOCK:
+        return 0;
+    case SIGEV_PULSE:
+        return wrong_pulse(event->sigev_priority, event->sigev_code);
     case SIGEV_SIGNAL:
     case SIGEV_SIGNAL_CODE:
-    case SIGEV_SIGNAL_THREAD: return signo < 1 || signo >= NSIG ? EINVAL : 0;
-    default: return EINVAL;
+    case SIGEV_SIGNAL_THREAD:
+        return signo < 1 || signo >= NSIG ? EINVAL : 0;
+    default:
+        return EINVAL;
     }
 }
 
-/* The thread that sent a held message. */
+/* Returns the tid of the thread that sent a held message, or -1. */
 static int sender_of(rcvid_t rcvid) {
     struct _msg_info info;
     return layer_MsgInfo(rcvid, &info) ? -1 : info.tid;
 }
 
-/* An event's signal, with its value and code. The host refuses some codes for another process. */
+/* Returns an event's signal, with its value and code. The host refuses positive codes for another process, so
+ * the signal gets SI_QUEUE then. */
 static siginfo_t signal_of(const struct sigevent *event, bool is_own) {
     siginfo_t info;
     int code = event->sigev_code;
@@ -35,7 +40,8 @@ static siginfo_t signal_of(const struct sigevent *event, bool is_own) {
     return info;
 }
 
-/* Signals this program, or a thread of it, with the event's value and code. */
+/* Signals this program, or one of its threads, with the event's value and code. thread is the host's number
+ * of the thread, or 0 for the program. */
 static int queue_signal(pid_t thread, const struct sigevent *event) {
     siginfo_t info = signal_of(event, true);
     long result = thread ? syscall(SYS_rt_tgsigqueueinfo, program, thread, info.si_signo, &info)
@@ -43,7 +49,7 @@ static int queue_signal(pid_t thread, const struct sigevent *event) {
     return (int)result;
 }
 
-/* Signals another program by its pidfd, which is closed. By its pid it might be a later program. */
+/* Signals another program by its pidfd, and closes the pidfd. Its pid might belong to a later program. */
 static int signal_program(int pidfd, const struct sigevent *event) {
     siginfo_t info = signal_of(event, false);
     bool has_code = SIGEV_GET_TYPE(event) == SIGEV_SIGNAL_CODE;
@@ -73,8 +79,10 @@ int MsgDeliverEvent(rcvid_t rcvid, const struct sigevent *event) {
     bool is_remote = neutrino_remote();
     int type = SIGEV_GET_TYPE(event), tid;
     switch (type) {
-    case SIGEV_NONE: return 0;
-    case SIGEV_PULSE: return is_remote ? neutrino_remote_deliver(rcvid, event, true) : send_event_pulse(event);
+    case SIGEV_NONE:
+        return 0;
+    case SIGEV_PULSE:
+        return is_remote ? neutrino_remote_deliver(rcvid, event, true) : send_event_pulse(event);
     case SIGEV_UNBLOCK:
         if (is_remote) return neutrino_remote_unblock(rcvid);
         tid = sender_of(rcvid);

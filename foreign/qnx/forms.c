@@ -1,6 +1,7 @@
-/* The forms of a send; those that no cancellation ends, and those that return their errors. Tested, not proved. */
+/* The forms of sends, the forms that aren't cancellation points, and the forms that return their errors.
+ * Tested, not proved. */
 
-/* Parameters of these types, and the same as arguments. */
+/* Parameters of these types, and the parameters as arguments. */
 #define ONE(A) (A a), (a)
 #define TWO(A, B) (A a, B b), (a, b)
 #define THREE(A, B, C) (A a, B b, C c), (a, b, c)
@@ -8,7 +9,7 @@
 #define FIVE(A, B, C, D, E) (A a, B b, C c, D d, E e), (a, b, c, d, e)
 #define SIX(A, B, C, D, E, F) (A a, B b, C c, D d, E e, F f), (a, b, c, d, e, f)
 
-/* Of functions that return a number: they return the negative error. */
+/* The forms in _r of functions that return a number. They return the negative error. */
 #define NUMBER_R(...) NUMBER_R_OF(__VA_ARGS__)
 #define NUMBER_R_OF(type, name, parameters, arguments) \
     type name##_r parameters { \
@@ -19,7 +20,7 @@
         errno = before; \
         return result; \
     }
-/* Of the others: they return the error. */
+/* The forms in _r of the other functions. They return the error. */
 #define STATUS_R(...) STATUS_R_OF(__VA_ARGS__)
 #define STATUS_R_OF(name, parameters, arguments) \
     int name##_r parameters { \
@@ -28,7 +29,7 @@
         return result; \
     }
 
-/* A send of one buffer or of many parts, with room of one or of many. */
+/* A send whose message is one buffer or many parts, and whose reply buffer is one buffer or many parts. */
 #define SENDS(name, S, sent, R, room) \
     long name(int coid, S smsg, size_t slength, R rmsg, size_t rlength) { \
         return send_parts(coid, sent(smsg, slength), room(rmsg, rlength)); \

@@ -1,7 +1,9 @@
-/* The parts of the front share these. Tested, not proved. The headers of include are for callers.
+/* Declarations that the parts of the front share. Tested, not proved. The headers in the folder include are
+ * for callers.
  *
- * The front stands on the layer of threads by its header alone. One lock, `front`, is over the tables of the front. The
- * kernel's lock may be taken under it, but not the other way round: the hooks, which the layer calls, do not take it.
+ * The front uses the layer of threads only by the layer's header. One lock, `front`, protects the tables of
+ * the front. A thread that has `front` may take the kernel's lock. A thread that has the kernel's lock
+ * doesn't take `front`: the hooks, which the layer calls under the kernel's lock, don't take it.
  */
 #ifndef FRONT_H
 #define FRONT_H
@@ -22,18 +24,22 @@
 #include <sys/neutrino.h>
 #include <unistd.h>
 
-/* The threads of the kernel: the program's, and two of the front, one of which is of a process of its own, so that its
- * connections are not the program's. With the layer's two clocks they are 64. */
+/* The threads of the kernel: the program's, and two threads of the front. One of the two, SYSTEM, belongs to
+ * a process of its own, so that its connections aren't the program's. With the layer's two clocks there are
+ * 64 threads. */
 enum { SEATS = 60, TICKER, SYSTEM };
 enum { PROGRAM = 1, SYSTEM_PROCESS = 2 };
 enum { LOWEST = 1, USUAL = 10, HIGHEST = 255 }; /* priorities */
 enum { SIDE = _NTO_SIDE_CHANNEL, SCOIDS = 255 };
-enum { CHANNELS = 64, CONNECTIONS = 1024, ENTRIES = CONNECTIONS + SEATS }; /* each thread may have just detached one */
+/* ENTRIES: each thread may just have detached a connection that is still in the table. */
+enum { CHANNELS = 64, CONNECTIONS = 1024, ENTRIES = CONNECTIONS + SEATS };
 enum { TIMERS = 256, NAMES = 64, NAME_LENGTH = 256, THREAD_NAME = 16 };
 
 static pthread_mutex_t front = PTHREAD_MUTEX_INITIALIZER;
-static _Thread_local volatile sig_atomic_t holding; /* the front's lock, for the thread's own signal handlers */
-static _Thread_local int cancel_state;              /* as it was before it held the lock */
+/* Above 0: the thread has the front's lock, or uses the buffers of its seat. Its own signal handlers read
+ * this. */
+static _Thread_local volatile sig_atomic_t holding;
+static _Thread_local int cancel_state; /* the thread's cancellation state before it took the lock */
 
 static void hold(void) {
     int state;
@@ -57,8 +63,9 @@ static int fail(int error) {
 
 static bool is_priority(int priority) { return priority >= LOWEST && priority <= HIGHEST; }
 
-/* The layer numbers connections without the bit of side channels. An scoid has that bit, and at most 255 below it, or
- * over the daemon one more bit, which no connection has. */
+/* Returns the layer's number of a connection: the layer numbers connections without the bit of side channels.
+ * An scoid has that bit, and below it a number of at most 255. With the daemon an scoid has one more bit,
+ * which no connection has. */
 static int plain(int coid) { return coid & ~SIDE; }
 
 static bool is_scoid(int coid) {

@@ -1,6 +1,7 @@
-/* MsgKeyData: a key of a message's data, which its client can't make. Tested, not proved.
+/* MsgKeyData: a key for a message's data, which the client can't make. Tested, not proved.
  *
- * It guards data that passes through a client of this program against mistakes; it is no cryptography. */
+ * The key protects data that passes through a client of this program against mistakes. It isn't
+ * cryptography. */
 #include <sys/random.h>
 
 static uint64_t mix(uint64_t sum, const void *bytes, size_t length) {

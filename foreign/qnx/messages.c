@@ -1,6 +1,6 @@
 /* Messages. Tested, not proved. */
 
-/* AddressSanitizer, if the program has it, does not see by itself that a cancelled thread's stack is left. */
+/* AddressSanitizer, if the program has it, doesn't see by itself that a cancelled thread leaves its stack. */
 __attribute__((weak)) void __asan_handle_no_return(void);
 
 /* Ends the calling thread if it is cancelled. */
@@ -16,14 +16,14 @@ static int enter_point(void) {
     return 0;
 }
 
-/* Ends a thread whose call was ended by its cancellation. */
+/* Ends the calling thread if a cancellation has ended its call. */
 static void leave_point(long result) {
     if (result != -1 || errno != EINTR) return;
     test_cancel();
     errno = EINTR;
 }
 
-/* Sends a message, as often as its server says. */
+/* Sends a message, and sends it again each time the server replies with ERESTART. */
 static long send_message(int coid, const void *smsg, size_t sbytes, void *rmsg, size_t rbytes) {
     long status;
     if (is_scoid(coid)) return fail(EBADF);
@@ -33,9 +33,9 @@ static long send_message(int coid, const void *smsg, size_t sbytes, void *rmsg, 
     return status;
 }
 
-/* The program's pid, and the coid as the program knows it. */
+/* Fills in the program's pid, and the coid as the program knows it. */
 static void complete_info(struct _msg_info *info) {
-    if (neutrino_remote()) return; /* the daemon has done so */
+    if (neutrino_remote()) return; /* the daemon has filled them in */
     int known = atomic_load(&connections[(unsigned)info->coid % CONNECTIONS].coid);
     info->pid = program;
     if (plain(known) != info->coid) {

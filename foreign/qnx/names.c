@@ -4,7 +4,7 @@ static struct {
     int chid;
 } names[NAMES];
 
-/* Under the lock. */
+/* Returns the place of a name in the table, or -1. The caller has the lock. */
 static int place_of_name(const char *name) {
     for (int at = 0; at < NAMES; at++) {
         if (!strcmp(names[at].name, name)) return at;
@@ -18,7 +18,7 @@ static int wrong_name(const char *name) {
     return strlen(name) < NAME_LENGTH ? 0 : ENAMETOOLONG;
 }
 
-/* Enters a name. Returns 0 or an errno. */
+/* Enters a name in the table, or in the daemon's. Returns 0 or an errno. */
 static int enter_name(const char *name, int chid) {
     if (neutrino_remote()) return neutrino_remote_name(name, chid) ? errno : 0;
     hold();
@@ -67,7 +67,7 @@ int name_detach(name_attach_t *attach, unsigned flags) {
     return 0;
 }
 
-/* Returns the chid of a name, and sets the pid if that is known. */
+/* Returns the chid of a name, and sets *pid if the pid is known. */
 static int find_name(const char *name, pid_t *pid) {
     if (neutrino_remote()) return neutrino_remote_find(name, pid);
     hold();

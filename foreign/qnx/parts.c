@@ -1,9 +1,11 @@
 /* Sends and receives of parts, which are gathered into one buffer and scattered again. Tested, not proved.
  *
- * The buffers are the seat's, so a cancelled thread leaves none behind. A thread's handler makes no call meanwhile. */
+ * The buffers belong to the seat, so a cancelled thread leaves none allocated. While a thread uses them, its
+ * signal handlers make no calls. */
 enum side { SENT, ROOM };
 
-/* Parts as one buffer: the only part, or the seat's buffer. A buffer of the caller has no parts. */
+/* Parts as one buffer: the only part, or the seat's buffer if there are several. A single buffer of the
+ * caller has no parts. */
 struct whole {
     const iov_t *parts;
     size_t count;
@@ -17,7 +19,8 @@ static struct whole one(const void *bytes, size_t length) {
     return (struct whole){NULL, 0, (void *)(uintptr_t)bytes, length};
 }
 
-/* Finds the whole length. Returns -1 for parts that can't be. */
+/* Adds up the lengths of the parts. Fails with EFAULT for a null part, and with EOVERFLOW if the sum is too
+ * great. */
 static int measure(struct whole *whole) {
     if (whole->count && !whole->parts) return fail(EFAULT);
     for (size_t at = 0; at < whole->count; at++) {
@@ -29,7 +32,7 @@ static int measure(struct whole *whole) {
     return 0;
 }
 
-/* Makes one buffer of the parts, with their bytes if it copies. */
+/* Makes one buffer for the parts, with their bytes if copies is true. */
 static int gather(struct whole *whole, enum side side, bool copies) {
     if (measure(whole)) return -1;
     if (whole->count == 1) whole->bytes = whole->parts[0].iov_base;
@@ -48,7 +51,7 @@ static int gather(struct whole *whole, enum side side, bool copies) {
     return 0;
 }
 
-/* Copies the first bytes back to the parts. */
+/* Copies the first bytes of the buffer back to the parts, if there are several. */
 static void scatter(const struct whole *whole, size_t length) {
     const char *from = whole->bytes;
     if (length > whole->length) length = whole->length;
@@ -73,7 +76,7 @@ static long send_parts(int coid, struct whole sent, struct whole room) {
     return status;
 }
 
-/* Receives by one of the layer's two functions. info is filled for a message alone. */
+/* Receives by one of the layer's two functions. Fills in info only for a message. */
 static int receive_parts(int (*receive)(int chid, void *bytes, size_t length, struct _msg_info *info), int chid,
                          struct whole room, struct _msg_info *info) {
     struct _msg_info own;
@@ -101,7 +104,7 @@ RECEIVE(rcvid_t, MsgReceivev, const iov_t *, many, layer_MsgReceive)
 RECEIVE(int, MsgReceivePulse, void *, one, layer_MsgReceivePulse)
 RECEIVE(int, MsgReceivePulsev, const iov_t *, many, layer_MsgReceivePulse)
 
-/* Begins a call with parts that does not wait. */
+/* Begins a call with parts that doesn't wait. If this succeeds, end_parts has to follow. */
 static int begin_parts(struct whole *whole, enum side side) {
     if (enter()) return -1;
     holding++;

@@ -1,4 +1,4 @@
-/* Who is at the other end of a connection. Tested, not proved. */
+/* Data about the other end of a connection: its server, or its client. Tested, not proved. */
 int ConnectServerInfo(pid_t pid, int coid, struct _server_info *info) {
     if (enter()) return -1;
     if (pid && pid != program) return fail(ESRCH);
@@ -20,7 +20,7 @@ int ConnectServerInfo(pid_t pid, int coid, struct _server_info *info) {
     return found ? found : fail(EINVAL);
 }
 
-/* Fills at most so many groups of the program. Returns how many. */
+/* Writes at most this number of the program's groups. Returns the number that it wrote. */
 static uint32_t fill_groups(gid_t *groups, int most) {
     int count = getgroups(0, NULL);
     gid_t *all = malloc((size_t)(count > 0 ? count : 1) * sizeof *all);
@@ -32,7 +32,7 @@ static uint32_t fill_groups(gid_t *groups, int most) {
     return count > 0 ? (uint32_t)count : 0;
 }
 
-/* Fills a client of the daemon, of whom the host tells one user and group. */
+/* Fills in a client of the daemon. The host reports only one user and one group of the client. */
 static int fill_remote(int scoid, struct _client_info *info, int most) {
     struct wire_client client;
     struct _cred_info *cred = &info->cred;

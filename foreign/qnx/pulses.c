@@ -1,7 +1,8 @@
-/* Pulses. The kernel knows codes of 0 to 127, and values of 32 bits. Tested, not proved.
+/* Pulses. The kernel's pulses have codes from 0 to 127, and values of 32 bits. Tested, not proved.
  *
- * A pulse that has more is sent with the code NOTED, and with a value that names a note of what it has. The hook puts
- * that into the pulse as it is received. A destroyed channel's notes are forgotten.
+ * A pulse with another code or a longer value is sent with the code NOTED, and with a value that names a
+ * note. So is a pulse whose code is NOTED. The note has the pulse's code and value, and the hook puts them
+ * into the pulse when it is received. The notes of a destroyed channel are freed.
  */
 enum { NOTES = 4096, NOTED = 127, TURNS = INT32_MAX / NOTES };
 
@@ -40,14 +41,14 @@ static void forget_note(int named) {
     atomic_compare_exchange_strong(&notes[named % NOTES].turn, &turn, 0);
 }
 
-/* Under the lock. */
+/* Frees the notes of a channel. The caller has the lock. */
 static void forget_notes(int chid) {
     for (int at = 0; at < NOTES; at++) {
         if (notes[at].chid == chid) atomic_store(&notes[at].turn, 0);
     }
 }
 
-/* The hook: a program's pulse is received. */
+/* The hook for a program's pulse that is received. Fills in the scoid, and the code and value of a note. */
 static void complete_pulse(struct _pulse *pulse) {
     int named = pulse->value.sival_int;
     pulse->scoid = SIDE | PROGRAM;
@@ -68,7 +69,7 @@ static int send_noted(int coid, int chid, int priority, int code, union sigval v
     return -1;
 }
 
-/* Returns an errno for a pulse that can't be, or 0. */
+/* Returns an errno for an invalid priority or code of a pulse, or 0. */
 static int wrong_pulse(int priority, int code) {
     bool known = priority == SIGEV_PULSE_PRIO_INHERIT || is_priority(priority);
     return known && code >= INT8_MIN && code <= INT8_MAX ? 0 : EINVAL;
@@ -85,7 +86,8 @@ static int send_pulse(int coid, int priority, int code, union sigval value) {
 static int defer_pulse(int coid, int priority, int code, union sigval value);
 static bool is_handling(void);
 
-/* A handler may have interrupted a call or the allocator, so the front's own thread sends its pulse. */
+/* A signal handler may have interrupted a call or the allocator, so the front's own thread sends its
+ * pulse. */
 int MsgSendPulsePtr(int coid, int priority, int code, void *value) {
     union sigval sent = {.sival_ptr = value};
     if (wrong_pulse(priority, code)) return fail(EINVAL);

@@ -1,4 +1,5 @@
-/* QNX's front as one object, from which only the names of include are seen. Tested, not proved. */
+/* QNX's front as one object. Only the names of the headers in include are visible outside. Tested, not
+ * proved. */
 #define _GNU_SOURCE
 #define BALSAEUCHRE_QNX_NO_WRAPPERS
 #include "front.h"

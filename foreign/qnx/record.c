@@ -1,7 +1,7 @@
 /* Records a run as a script with names, in the file that BALSAEUCHRE_RECORD names. Tested, not proved.
  *
- * In the text a thread is MARK and its number; its name is put there as the text is written, and all is written again
- * when a thread gets a name.
+ * In the text a thread is the byte MARK and the thread's number. The thread's name replaces them when the
+ * text is written. The whole text is written again when a thread gets a name.
  */
 #include <fcntl.h>
 
@@ -10,10 +10,11 @@ enum { MARK = 1, NAME_ROOM = 24 };
 static struct {
     int fd;                     /* -1: nothing is recorded */
     size_t length, written;     /* of the lines below, and of the file */
-    char names[256][NAME_ROOM]; /* of threads; empty: it has no line yet */
+    char names[256][NAME_ROOM]; /* of threads; empty: the thread has no line yet */
 } record = {.fd = -1};
 static char lines[WHOLE];
-static pthread_mutex_t recording = PTHREAD_MUTEX_INITIALIZER; /* over the record; taken under the kernel's lock */
+/* Protects the record. It is taken under the kernel's lock. */
+static pthread_mutex_t recording = PTHREAD_MUTEX_INITIALIZER;
 
 static void write_text(const char *text, size_t length) {
     while (length) {
@@ -52,7 +53,7 @@ static void write_all(void) {
     write_named(lines, record.length);
 }
 
-/* A name as scripts have them, that no other thread has and none of the calls. */
+/* Gives a thread a name that is valid in a script, and that no other thread and no call has. */
 static void name_line(int tid, const char *from) {
     char name[NAME_ROOM];
     int length = 0;
@@ -67,16 +68,18 @@ static void name_line(int tid, const char *from) {
     snprintf(record.names[tid], NAME_ROOM, is_used ? "%s.%d" : "%s", name, tid);
 }
 
-/* Gives a thread its line with a name. Under the record's lock. */
+/* Gives a thread its line with a name, if it has none. The caller has the record's lock. */
 static void list_thread(int tid) {
-    char name[NAME_ROOM];
+    char name[NAME_ROOM] = "clock";
     if (*record.names[tid]) return;
     if (tid <= SEATS) snprintf(name, sizeof name, "t%d", tid);
-    name_line(tid, tid <= SEATS ? name : tid == TICKER ? "timers" : tid == SYSTEM ? "system" : "clock");
+    else if (tid == TICKER) strcpy(name, "timers");
+    else if (tid == SYSTEM) strcpy(name, "system");
+    name_line(tid, name);
     write_all();
 }
 
-/* A thread has a seat, or another name. */
+/* Records that a thread has taken a seat, or has got another name. */
 static void record_seat(int tid, pthread_t thread) {
     char name[THREAD_NAME], programs[THREAD_NAME];
     if (record.fd == -1 || pthread_getname_np(thread, name, sizeof name)) return;
@@ -97,7 +100,7 @@ static void add_thread(struct line *line, int tid) {
 
 static const char *process_name(int process) { return process == PROGRAM ? "program" : "system"; }
 
-/* Keeps a line, or ends the record where a script would be too long. */
+/* Keeps a line, or ends the record if the script would become too long. */
 static void keep_line(const struct line *line) {
     static const char told_end[] = "balsaeuchre: the record is full at 4 MiB, and ends here\n";
     if (record.length + line->length <= WHOLE && record.written + line->length <= WHOLE) {
@@ -111,7 +114,7 @@ static void keep_line(const struct line *line) {
     record.fd = -1;
 }
 
-/* The hook: the kernel has made a call. */
+/* The hook for a call that the kernel has made. */
 static void record_call(const balsaeuchre_request *r, const void *sent, size_t sent_len, const void *room,
                         size_t room_len, const balsaeuchre_event *event) {
     static struct line line; /* under the record's lock; a stack may be too short */
@@ -125,7 +128,7 @@ static void record_call(const balsaeuchre_request *r, const void *sent, size_t s
     pthread_mutex_unlock(&recording);
 }
 
-/* Opens the record, if there has to be one. Returns the hooks of the run. */
+/* Opens the record if the environment names a file for it. Returns the hooks of the run. */
 static const struct neutrino_hooks *hooks_of_run(void) {
     static struct neutrino_hooks hooks = {NULL, complete_pulse};
     const char *file = getenv("BALSAEUCHRE_RECORD");
@@ -135,7 +138,7 @@ static const struct neutrino_hooks *hooks_of_run(void) {
     return &hooks;
 }
 
-/* In a forked child, whose calls are not its parent's. */
+/* Forgets the record in a forked child, whose calls aren't its parent's. */
 static void forget_record(void) {
     if (record.fd != -1) close(record.fd);
     pthread_mutex_init(&recording, NULL);

@@ -1,9 +1,10 @@
-/* The lines of a record: the calls of a kernel as a script with names has them. Tested, not proved.
+/* The lines of a record: the calls of a kernel, in the form of a script with names. Tested, not proved.
  *
- * The hook of the layer has each call of the kernel in the order in which the kernel made it, with all that it
- * completes. So the number of a call is that of its line among the calls, and each line says how its call has to
- * complete. Buffers are recorded as zeros, as their bytes are in no result; so are the bytes of a message that is too
- * long for a line. Who includes this defines the names of threads and processes.
+ * The hook of the layer gets each call of the kernel, in the order in which the kernel made them, with all
+ * completions that the call caused. So the number of a call is the number of its line among the lines of
+ * calls, and each line has the expectation of its call. Buffers are recorded as zeros, since their bytes are
+ * in no result. The bytes of a message that is too long for a line are recorded as zeros, too. The file that
+ * includes this file defines the names of threads and processes.
  */
 #include <stdarg.h>
 
@@ -27,7 +28,7 @@ __attribute__((format(printf, 2, 3))) static void add(struct line *line, const c
 static void add_thread(struct line *line, int tid);
 static const char *process_name(int process);
 
-/* Adds bytes as a script has them, or zeros. */
+/* Adds bytes in the form of a script, or zeros. */
 static void add_bytes(struct line *line, const void *bytes, size_t length, bool zeros) {
     const uint8_t *from = bytes;
     bool is_text = true;
@@ -45,14 +46,16 @@ static void add_bytes(struct line *line, const void *bytes, size_t length, bool 
     if (is_text) add(line, "\"");
 }
 
-/* Adds the name of what a call made; 0 is what no call made. */
+/* Adds the name of the channel, connection, message or pulse with this id, which is the number of the call
+ * that made it. The id 0 has the name 0: no call made it. */
 static void add_name(struct line *line, const char *kind, uint64_t id) {
     add(line, id ? " %s%llu" : " 0", id ? kind : "", (unsigned long long)id);
 }
 
-static char open_as[256]; /* by tid: the letter of the name of the call that the thread is blocked in */
+static char open_as[256]; /* by tid: the first letter of the name of the thread's blocked call */
 
-/* A call's word, the letters of what it makes, and those of what it names first. */
+/* A call's word, the letters of the name that it makes, and the letters of the name that is its first
+ * operand. */
 static const struct {
     const char *word, *makes, *names;
 } kinds[] = {
@@ -75,7 +78,7 @@ static const struct {
     [BALSAEUCHRE_SHUTDOWN] = {"shutdown", NULL, NULL},
 };
 
-/* A call with its buffers, as the hook has them. */
+/* A call with its buffers, as the hook gets them. */
 struct made {
     const balsaeuchre_request *request;
     const void *sent;
@@ -87,19 +90,30 @@ static void add_call(struct line *line, const struct made *made) {
     add(line, " %s", kinds[r->kind].word);
     if (kinds[r->kind].names) add_name(line, kinds[r->kind].names, r->id);
     switch (r->kind) {
-    case BALSAEUCHRE_CHANNEL_CREATE: add(line, " %d", r->flags); break;
-    case BALSAEUCHRE_REPLY: add(line, " %lld", (long long)r->status); break;
-    case BALSAEUCHRE_ERROR: add(line, " %d", r->code); break;
+    case BALSAEUCHRE_CHANNEL_CREATE:
+        add(line, " %d", r->flags);
+        break;
+    case BALSAEUCHRE_REPLY:
+        add(line, " %lld", (long long)r->status);
+        break;
+    case BALSAEUCHRE_ERROR:
+        add(line, " %d", r->code);
+        break;
     case BALSAEUCHRE_READ:
-    case BALSAEUCHRE_WRITE: add(line, " %zu", r->offset); break;
-    case BALSAEUCHRE_PULSE: add(line, " %d %d %d", r->priority, r->pulse_code, r->value); break;
+    case BALSAEUCHRE_WRITE:
+        add(line, " %zu", r->offset);
+        break;
+    case BALSAEUCHRE_PULSE:
+        add(line, " %d %d %d", r->priority, r->pulse_code, r->value);
+        break;
     case BALSAEUCHRE_PRIORITY_SET:
     case BALSAEUCHRE_STATE:
     case BALSAEUCHRE_UNBLOCK:
         add(line, " ");
         add_thread(line, r->target);
         break;
-    default: break;
+    default:
+        break;
     }
     if (r->kind == BALSAEUCHRE_PRIORITY_SET) add(line, " %d", r->priority);
     if (r->kind == BALSAEUCHRE_SEND || r->kind == BALSAEUCHRE_REPLY || r->kind == BALSAEUCHRE_WRITE)
@@ -121,18 +135,31 @@ static void add_pulse(struct line *line, const balsaeuchre_ending *row) {
     }
 }
 
-/* How a call has completed. What is longer than what is recorded of it is left out. */
+/* Adds the result of a call. It leaves out bytes and lengths that exceed the recorded part of a message or a
+ * buffer. */
 static void add_result(struct line *line, const balsaeuchre_ending *row, const struct made *made,
                        const uint8_t *bytes) {
     size_t offset = made->request->offset;
     static const char *const errors[] = {"ok", "srch", "badf", "inval", "again", "intr", "busy", "nomemory", "down"};
     static const char *const states[] = {"", "ready", "send", "receive", "reply"};
     switch (row->mark) {
-    case BALSAEUCHRE_DONE: add(line, "ok"); break;
-    case BALSAEUCHRE_FAILED: add(line, "fail %s", row->errno_ < 9 ? errors[row->errno_] : "*"); break;
-    case BALSAEUCHRE_CHANNEL: add(line, "channel"); add_name(line, "ch", row->id); break;
-    case BALSAEUCHRE_CONNECTION: add(line, "connection"); add_name(line, "co", row->id); break;
-    case BALSAEUCHRE_ERRORED: add(line, "error %d", row->value); break;
+    case BALSAEUCHRE_DONE:
+        add(line, "ok");
+        break;
+    case BALSAEUCHRE_FAILED:
+        add(line, "fail %s", row->errno_ < 9 ? errors[row->errno_] : "*");
+        break;
+    case BALSAEUCHRE_CHANNEL:
+        add(line, "channel");
+        add_name(line, "ch", row->id);
+        break;
+    case BALSAEUCHRE_CONNECTION:
+        add(line, "connection");
+        add_name(line, "co", row->id);
+        break;
+    case BALSAEUCHRE_ERRORED:
+        add(line, "error %d", row->value);
+        break;
     case BALSAEUCHRE_REPLIED:
         add(line, "reply %lld", (long long)row->status);
         if (made->sent_len <= LONGEST) add_bytes(line, bytes + row->start, row->count, false);
@@ -152,7 +179,9 @@ static void add_result(struct line *line, const balsaeuchre_ending *row, const s
         if (row->srcmsglen <= MOST && row->dstmsglen <= MOST)
             add(line, " %zu %zu %zu %d", row->count, row->srcmsglen, row->dstmsglen, row->priority);
         break;
-    case BALSAEUCHRE_PULSED: add_pulse(line, row); break;
+    case BALSAEUCHRE_PULSED:
+        add_pulse(line, row);
+        break;
     default:
         add(line, "state %s", states[row->state & 7]);
         if (row->state != BALSAEUCHRE_READY) add_name(line, "ch", row->id);
@@ -160,7 +189,7 @@ static void add_result(struct line *line, const balsaeuchre_ending *row, const s
     }
 }
 
-/* Adds how the call has completed, and the calls of others that it has completed. */
+/* Adds the completion of the call, and the completions of other threads' calls that it has caused. */
 static void add_results(struct line *line, const struct made *made, const balsaeuchre_event *event) {
     int caller = made->request->thread;
     bool blocks = true;
@@ -178,7 +207,7 @@ static void add_results(struct line *line, const struct made *made, const balsae
     add(line, "\n");
 }
 
-/* The whole line of a call. */
+/* Adds the whole line of a call. */
 static void add_made(struct line *line, const struct made *made, const balsaeuchre_event *event) {
     const char *letters = kinds[made->request->kind].makes;
     open_as[made->request->thread] = letters ? letters[0] : 0;

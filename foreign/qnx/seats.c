@@ -1,14 +1,15 @@
 /* The program's kernel, which its first call opens, and the seats of its threads. Tested, not proved.
  *
- * A seat is a number of the kernel's threads. pthread_create reserves one, so that threads are numbered as they are
- * created; a thread joins the kernel with it at its first call. A thread for which none was free takes one then, and if
- * need be one that is only reserved. If all are taken, it waits for a while.
+ * A seat is a thread number of the kernel. pthread_create reserves a seat, so threads are numbered in the
+ * order in which they are created. A thread joins the kernel with its seat at its first call. If no seat was
+ * free when the thread was created, it takes a seat at its first call. If no seat is free then, it takes a
+ * seat that is only reserved for another thread. If all seats are taken, it waits for PATIENCE seconds.
  */
 #ifndef PATIENCE
 #define PATIENCE 10 /* seconds */
 #endif
 
-enum { OWN_STACK = 1 << 18 }; /* bytes of the stacks of the front's own threads */
+enum { OWN_STACK = 1 << 18 }; /* the bytes of a stack of the front's own threads */
 enum use { FREE, RESERVED, TAKEN };
 
 struct seat {
@@ -16,9 +17,9 @@ struct seat {
     unsigned ticket; /* of the reservation */
     pthread_t thread;
     pid_t host;   /* the host's number of the thread */
-    int priority; /* that was set */
+    int priority; /* as it was last set */
     int policy;
-    char *parts[2]; /* where parts are gathered: what it sends, and room for what it gets */
+    char *parts[2]; /* buffers in which parts are gathered: sent bytes, and room for received bytes */
     size_t longest[2];
 };
 
@@ -27,11 +28,11 @@ static pthread_cond_t given_back = PTHREAD_COND_INITIALIZER;
 static unsigned tickets;
 static neutrino *kernel;
 static pid_t program;
-static pthread_key_t ending; /* of a thread: its destructor gives the seat back */
+static pthread_key_t ending; /* its destructor gives back the seat of a thread that ends */
 static pthread_once_t once = PTHREAD_ONCE_INIT;
 static int refused; /* the error with which the host refused the key or the handlers of forks */
 
-static _Thread_local volatile sig_atomic_t unlocked_forks; /* that the thread is in, without the lock */
+static _Thread_local volatile sig_atomic_t unlocked_forks; /* forks that the thread is in without the lock */
 
 /* The calling thread's seat, or 0; and the seat that is reserved for it, or 0. */
 static _Thread_local int seat, reserved;
@@ -43,8 +44,9 @@ static void start_service(void);
 static void record_seat(int tid, pthread_t thread);
 static const struct neutrino_hooks *hooks_of_run(void);
 
-/* Before a fork: no other thread is amid a change of the tables. A handler that has interrupted a call forks without
- * the lock, for its own thread may have it, or have what the thread with the lock waits for. */
+/* Takes the lock before a fork, so that no other thread is in the middle of a change of the tables. A handler
+ * that has interrupted a call forks without the lock: its own thread may have the lock, or may have something
+ * for which the thread with the lock waits. */
 static void before_fork(void) {
     if (holding || neutrino_inside()) unlocked_forks++;
     else hold();
@@ -60,10 +62,11 @@ static void prepare(void) {
     if (!refused) refused = pthread_atfork(before_fork, after_fork, forget_all);
 }
 
-/* How a thread is scheduled if nobody says more. */
+/* The priority and the policy of a thread for which nothing else is set. */
 static const struct seat usual = {.priority = USUAL, .policy = SCHED_RR};
 
-/* Reserves the first free seat for a thread that the caller creates, or for itself, under the lock. */
+/* Reserves the first free seat, for a thread that the caller creates or for the caller. Returns 0 if none is
+ * free. The caller has the lock. */
 static int reserve(const struct seat *as) {
     for (int tid = 1; tid <= SEATS; tid++) {
         if (seats[tid].use != FREE) continue;
@@ -75,13 +78,14 @@ static int reserve(const struct seat *as) {
     return 0;
 }
 
-/* Whether the seat that was reserved for the calling thread is so still, under the lock. */
+/* Returns whether the seat that was reserved for the calling thread is still reserved for it. The caller has
+ * the lock. */
 static bool has_reserved(void) {
     return reserved && seats[reserved].use == RESERVED && seats[reserved].ticket == ticket;
 }
 
-/* Takes the seat that is reserved for the calling thread, or a free one, or one that is reserved for another thread,
- * under the lock. Returns 0 if all are taken. */
+/* Takes a seat for the calling thread: the seat that is reserved for it, or a free seat, or a seat that is
+ * reserved for another thread. Returns 0 if all are taken. The caller has the lock. */
 static int take(void) {
     int tid = has_reserved() ? reserved : reserve(&usual);
     for (int at = SEATS; !tid && at > 0; at--) {
@@ -97,7 +101,7 @@ static int take(void) {
     return tid;
 }
 
-/* The same, and waits if all are taken. */
+/* Takes a seat like take, and waits for PATIENCE seconds if all are taken. */
 static int take_in_time(void) {
     struct timespec until;
     clock_gettime(CLOCK_REALTIME, &until);
@@ -109,7 +113,7 @@ static int take_in_time(void) {
     return tid;
 }
 
-/* Starts a thread of the front's own. */
+/* Starts one of the front's own threads. */
 static int start_own(pthread_t *thread, void *(*work)(void *argument), void *argument) {
     pthread_attr_t attributes;
     pthread_attr_init(&attributes);
@@ -128,8 +132,8 @@ static void *open_kernel(void *error) {
     return NULL;
 }
 
-/* Opens the kernel by a thread of its own, since that takes 16 KiB of the stack, and the caller may have no more in
- * all. */
+/* Opens the kernel in a thread of its own. This takes 16 KiB of stack, and the caller's whole stack may be no
+ * larger. */
 static void open_on_own_stack(void) {
     pthread_t thread;
     int error = 0;
@@ -138,7 +142,8 @@ static void open_on_own_stack(void) {
     if (error) errno = error;
 }
 
-/* Opens the program's kernel, if it isn't yet. Returns null and sets errno on an error. */
+/* Opens the program's kernel, if it isn't open yet, and returns it. On an error it returns null and sets
+ * errno. */
 static neutrino *open_program(void) {
     pthread_once(&once, prepare);
     if (refused) errno = refused;
@@ -155,7 +160,8 @@ static neutrino *open_program(void) {
     return opened;
 }
 
-/* Joins the kernel with a seat. The daemon may have no room for one more thread, for which it waits, too. */
+/* Joins the kernel with a seat. If the daemon has no room for one more thread, it waits for room, for
+ * PATIENCE seconds. */
 static int join(int tid) {
     for (int left = PATIENCE * 100; neutrino_join(kernel, tid); left--) {
         if (errno != EAGAIN || !left) return -1;
@@ -174,7 +180,8 @@ static void give_back(int tid) {
     release();
 }
 
-/* What would end or interrupt the calling thread waits. */
+/* A thread's signal mask and cancellation state. From be_quiet to end_quiet its signals and its cancellation
+ * wait. */
 struct quiet {
     sigset_t signals;
     int cancel_state;
@@ -193,7 +200,7 @@ static void end_quiet(const struct quiet *quiet) {
     pthread_sigmask(SIG_SETMASK, &quiet->signals, NULL);
 }
 
-/* Takes a seat for the calling thread. */
+/* Takes a seat for the calling thread, and joins the kernel with it. */
 static int take_seat(void) {
     struct quiet quiet;
     be_quiet(&quiet);
@@ -215,27 +222,29 @@ static int take_seat(void) {
     return error ? fail(error) : 0;
 }
 
-/* Lets the calling thread make calls. EDEADLK: it is a handler that interrupted the front, or one that did so to a call
- * and has forked since. */
+/* Lets the calling thread make calls. EDEADLK: it is in a handler that interrupted the front, or in a handler
+ * that interrupted a call and has forked since. */
 static int enter(void) {
     if (holding || (!seat && neutrino_inside())) return fail(EDEADLK);
     return seat ? 0 : take_seat();
 }
 
-static pthread_mutex_t systems = PTHREAD_MUTEX_INITIALIZER; /* over the front's thread of a process of its own */
+static pthread_mutex_t systems = PTHREAD_MUTEX_INITIALIZER; /* protects the thread SYSTEM */
 
-/* Makes work's calls as that thread. It can't fail: under the lock nobody else acts as it, the calling thread is in no
- * call, and no memory is taken. The calling thread keeps its seat, timeout and cancellation. */
+/* Makes work's calls as the thread SYSTEM, which belongs to a process of its own. This can't fail: under the
+ * lock no other thread acts as SYSTEM, the calling thread is in no call, and no memory is allocated. The
+ * calling thread keeps its seat, timeout and cancellation. */
 static void as_system(void (*work)(void *argument), void *argument) {
     struct quiet quiet;
     be_quiet(&quiet);
     pthread_mutex_lock(&systems);
-    if (neutrino_act_as(kernel, SYSTEM, work, argument)) perror("balsaeuchre: the front's own thread can't make a call");
+    if (neutrino_act_as(kernel, SYSTEM, work, argument))
+        perror("balsaeuchre: the front's own thread can't make a call");
     pthread_mutex_unlock(&systems);
     end_quiet(&quiet);
 }
 
-/* Returns the tid of a thread that has a seat, or 0, under the lock. */
+/* Returns the tid of a thread that has a seat, or 0. The caller has the lock. */
 static int tid_under_lock(pthread_t thread) {
     for (int tid = 1; tid <= SEATS; tid++) {
         if (seats[tid].use != FREE && seats[tid].thread && pthread_equal(seats[tid].thread, thread)) return tid;
@@ -250,7 +259,7 @@ static int tid_of(pthread_t thread) {
     return tid;
 }
 
-/* A seat as it stands, which is free if there is no such. */
+/* Returns a copy of a seat. It is free if there is no such seat. */
 static struct seat seat_of(int tid) {
     struct seat none = {.use = FREE};
     if (tid < 1 || tid > SEATS) return none;

@@ -1,11 +1,11 @@
-/* The front's own thread. It waits for timers, for pulses that handlers could not send, and for SIGQUIT. Tested, not
- * proved. */
+/* The front's own thread. It waits for timers, for pulses that signal handlers couldn't send, and for
+ * SIGQUIT. Tested, not proved. */
 enum { ORDERS = TIMERS, EVERY = 20 }; /* EVERY: milliseconds between looks for circles */
 
-/* What the front's thread is told through a pipe. */
+/* An order that the front's thread gets through a pipe. */
 struct order {
-    int coid; /* over which it sends a pulse; 0: it shows the threads */
-    int priority, code, zero; /* zero: no byte is left unwritten */
+    int coid;                 /* the connection over which it sends a pulse; 0: it shows the threads */
+    int priority, code, zero; /* zero takes the place of padding, so each byte is written */
     union sigval value;
 };
 
@@ -15,7 +15,8 @@ static int give_order(const struct order *order) {
     return write(orders[1], order, sizeof *order) == sizeof *order ? 0 : fail(EAGAIN);
 }
 
-/* For signal handlers. With SIGEV_PULSE_PRIO_INHERIT it has the priority of the front's thread. */
+/* Has the front's thread send a pulse, for a signal handler. With SIGEV_PULSE_PRIO_INHERIT the pulse has the
+ * priority of the front's thread. */
 static int defer_pulse(int coid, int priority, int code, union sigval value) {
     return give_order(&(struct order){coid, priority, code, 0, value});
 }
@@ -47,7 +48,7 @@ static void *serve(void *tells_circles) {
     }
 }
 
-/* Opens the pipe and the epoll. Returns whether it could. */
+/* Opens the pipe and the epoll. Returns whether both are open. */
 static bool open_service(void) {
     struct epoll_event event = {.events = EPOLLIN, .data.u32 = ORDERS};
     int epoll = epoll_create1(EPOLL_CLOEXEC);
@@ -60,8 +61,8 @@ static bool open_service(void) {
     return true;
 }
 
-/* Starts the thread, for a caller whose signals are blocked, under the lock. Without it there are no timers, and
- * SIGQUIT is as ever. */
+/* Starts the thread. The caller has the lock, and has blocked its signals. Without the thread no timer sends
+ * pulses, and SIGQUIT has its usual effect. */
 static void start_service(void) {
     pthread_t thread;
     struct sigaction quit;
@@ -77,8 +78,8 @@ static void start_service(void) {
     sigaction(SIGQUIT, &quit, NULL);
 }
 
-/* In a forked child, whose one thread has none of its parent's kernel. If it is in a handler that has interrupted a
- * call, it stays refused calls. */
+/* Forgets the parent's kernel in a forked child, which has only one thread. If the child is in a handler that
+ * has interrupted a call, its calls are still refused. */
 static void forget_all(void) {
     int ignored;
     for (int at = 0; at < TIMERS; at++) {

@@ -1,7 +1,8 @@
-/* Shows who is blocked on whom, like pidin, and tells of circles. Tested, not proved. */
+/* Shows which thread is blocked on which, like pidin, and reports circles of senders. Tested, not proved. */
 #include "printable.h"
 
-/* The name that a thread has by pthread_setname_np, or the program's. */
+/* Writes a thread's name, as pthread_setname_np set it, or the program's name. It is ? if no thread has the
+ * seat. */
 static void name_thread(int tid, char *name) {
     strcpy(name, "?");
     hold();
@@ -36,7 +37,8 @@ void neutrino_show(int fd) {
     free(all);
 }
 
-/* The threads of the circle in which a thread waits for itself, a bit for each, or 0. */
+/* Returns the circle of threads in which a thread waits for itself, a bit for each thread. 0: there is
+ * none. */
 static uint64_t circle_of(const struct neutrino_blocked *all, int tid) {
     uint64_t circle = 0;
     int at = tid;
@@ -61,14 +63,14 @@ static void tell_circle(const struct neutrino_blocked *all, int tid) {
     if (write(STDERR_FILENO, text, (size_t)(to - text)) < 0) return;
 }
 
-/* Tells each circle once, if it stands at two looks. By the front's own thread. */
+/* Reports each circle once, when two looks in a row find it. The front's own thread calls this. */
 static void tell_circles(void) {
-    static uint64_t seen[SEATS + 1], told_of[SEATS + 1]; /* by the least thread of a circle */
+    static uint64_t seen[SEATS + 1], told_of[SEATS + 1]; /* by the lowest tid of a circle */
     struct neutrino_blocked all[256];
     if (neutrino_look(kernel, all)) return;
     for (int tid = 1; tid <= SEATS; tid++) {
         uint64_t circle = circle_of(all, tid);
-        if (circle & ((1ull << tid) - 1)) circle = 0; /* it is told at a lesser thread */
+        if (circle & ((1ull << tid) - 1)) circle = 0; /* it is reported at a lower tid */
         bool tells = circle && circle == seen[tid] && circle != told_of[tid];
         if (tells) tell_circle(all, tid);
         if (tells || !circle) told_of[tid] = circle;

@@ -1,24 +1,25 @@
 /* Signals: handlers end calls. Tested, not proved.
  *
- * The host runs on_signal, which marks the call of its thread as interrupted and then runs the program's handler. */
+ * The host runs on_signal, which marks the call of its thread as interrupted and then runs the program's
+ * handler. */
 #include <ucontext.h>
 
-enum { NESTED = 8 }; /* handlers that interrupt one another, and of which the thread keeps where they run */
+enum { NESTED = 8 }; /* a thread records at most this number of nested handlers */
 
 static _Atomic uintptr_t handlers[NSIG]; /* the program's */
 static _Atomic int flags_of[NSIG];
 
-/* A handler that a thread is in: it runs on the stack from low to high. */
+/* A handler that a thread is in. It runs on the stack between these two addresses. */
 struct handling {
     uintptr_t low, high;
-    int signo; /* which is blocked meanwhile; 0: it isn't */
+    int signo; /* the handler's signal if it is blocked meanwhile, or 0 */
 };
 
 static _Thread_local volatile struct handling handlings[NESTED];
-static _Thread_local volatile sig_atomic_t handling; /* how many of them there are */
+static _Thread_local volatile sig_atomic_t handling; /* the number of handlers that the thread is in */
 
-/* Whether a handler was left by a jump, such as siglongjmp: the thread is above it on the stack, or on another one, or
- * has the signal unblocked. */
+/* Returns whether a handler was left by a jump, such as siglongjmp: the thread is above the handler on the
+ * stack, or on another stack, or has the signal unblocked. */
 static bool is_left(const volatile struct handling *h) {
     sigset_t blocked;
     uintptr_t here = (uintptr_t)__builtin_frame_address(0);
@@ -26,14 +27,14 @@ static bool is_left(const volatile struct handling *h) {
     return h->signo && !pthread_sigmask(SIG_BLOCK, NULL, &blocked) && !sigismember(&blocked, h->signo);
 }
 
-/* Whether the calling thread is in a handler of the program. */
+/* Returns whether the calling thread is in a handler of the program. */
 static bool is_handling(void) {
     while (handling && is_left(&handlings[handling - 1])) handling--;
     return handling;
 }
 
-/* The calling thread is in one more handler, which on_signal calls in this frame. It is entered twice, as a handler
- * that interrupts this may have had the same place. */
+/* Records that the calling thread is in one more handler, which on_signal calls in this frame. It writes the
+ * record twice, since a handler that interrupts this function may have used the same place. */
 static void begin_handling(int outer, int signo, const ucontext_t *context, void *frame) {
     uintptr_t low = (uintptr_t)context->uc_stack.ss_sp, high = low + context->uc_stack.ss_size, at = (uintptr_t)frame;
     bool is_alternate = at >= low && at < high;
@@ -47,7 +48,7 @@ static void begin_handling(int outer, int signo, const ucontext_t *context, void
 
 static void on_signal(int signo, siginfo_t *info, void *context) {
     uintptr_t handler = atomic_load(&handlers[signo]);
-    int before = errno; /* the call that is interrupted has set its own */
+    int before = errno; /* errno belongs to the interrupted call */
     neutrino_interrupt();
     int outer = is_handling() ? handling : 0;
     begin_handling(outer, signo, context, __builtin_frame_address(0));
@@ -61,7 +62,7 @@ static bool is_handler(const struct sigaction *action) {
     return action->sa_handler != SIG_DFL && action->sa_handler != SIG_IGN && action->sa_handler != SIG_ERR;
 }
 
-/* What the program set, where the host has on_signal. */
+/* Puts the handler and the flags that the program set into an action of the host that has on_signal. */
 static void name_handler(struct sigaction *action, uintptr_t handler, int flags) {
     if (!(action->sa_flags & SA_SIGINFO) || action->sa_sigaction != on_signal) return;
     action->sa_flags = flags;

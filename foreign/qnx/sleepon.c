@@ -4,7 +4,7 @@ struct sleeper {
     struct sleeper *next;
 };
 
-static struct sleeper *sleepers; /* in the order in which they came */
+static struct sleeper *sleepers; /* in the order in which they began to sleep */
 static pthread_mutex_t sleepon = PTHREAD_MUTEX_INITIALIZER;
 static pthread_cond_t woken = PTHREAD_COND_INITIALIZER;
 
@@ -18,7 +18,7 @@ static void stop_sleeping(void *own) {
     *at = (*at)->next;
 }
 
-/* Waits until it is woken, or until a time that isn't null. */
+/* Waits until the sleeper is woken, or until a time if that isn't null. Returns 0 or an error. */
 static int sleep_until(struct sleeper *own, const struct timespec *until) {
     int error = 0;
     while (own->addr && !error)

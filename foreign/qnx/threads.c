@@ -2,15 +2,16 @@
 struct start {
     void *(*function)(void *argument);
     void *argument;
-    pthread_t *id; /* where the creator wants the thread's id, or null */
-    bool has_met;  /* the thread or its creator has come to meet the other */
+    pthread_t *id; /* the creator's place for the thread's id, or null */
+    bool has_met;  /* the thread or its creator has already called meet */
     int reserved;
     unsigned ticket;
 };
 
 static void tell_death(int tid);
 
-/* The destructor of a thread: it gives its seat back, and the channels that want to know are told. */
+/* The destructor of a thread. It gives back the thread's seat, and sends a pulse to each channel with
+ * _NTO_CHF_THREAD_DEATH. */
 static void end_thread(void *argument) {
     (void)argument;
     int tid = seat;
@@ -24,8 +25,9 @@ static void end_thread(void *argument) {
     give_back(tid);
 }
 
-/* A thread and its creator meet here. The first one writes the thread's id, so that the thread finds it before its
- * function begins, and its creator as pthread_create returns. The second one frees the start. */
+/* A thread and its creator both call this. The first caller writes the thread's id. So the thread finds the
+ * id before its function begins, and the creator finds it when pthread_create returns. The second caller
+ * frees the start. */
 static void meet(struct start *start, pthread_t thread) {
     hold();
     bool is_second = start->has_met;
@@ -47,8 +49,8 @@ static void *run_thread(void *own) {
     return function(argument);
 }
 
-/* The priority of attributes: the host takes 1 to 99. These bytes are cleared as attributes begin, and the host doesn't
- * use them. */
+/* Returns the place of the priority in attributes. It isn't the host's place, since the host accepts only 1
+ * to 99. These bytes are cleared when attributes are initialized, and the host doesn't use them. */
 static char *priority_of(const pthread_attr_t *attributes) { return (char *)(attributes + 1) - sizeof(int); }
 
 int neutrino_pthread_attr_getschedparam(const pthread_attr_t *attributes, struct sched_param *param) {
@@ -62,7 +64,8 @@ int neutrino_pthread_attr_setschedparam(pthread_attr_t *attributes, const struct
     return 0;
 }
 
-/* How a new thread is scheduled: as its attributes say, or as its creator is. Under the lock. */
+/* Returns the priority and the policy of a new thread: from its attributes, or from its creator. The caller
+ * has the lock. */
 static struct seat scheduling(const pthread_attr_t *attributes) {
     int own = seat ? seat : has_reserved() ? reserved : 0, inherits = PTHREAD_INHERIT_SCHED;
     struct sched_param param = {.sched_priority = 0};
@@ -79,7 +82,7 @@ static struct seat scheduling(const pthread_attr_t *attributes) {
     return new;
 }
 
-/* Reserves seats for a new thread and, if it has none, for its creator, which comes first. */
+/* Reserves a seat for a new thread, and before that a seat for its creator if the creator has none. */
 static void reserve_both(struct start *start, const pthread_attr_t *attributes) {
     hold();
     struct seat new = scheduling(attributes);
@@ -94,7 +97,7 @@ static void reserve_both(struct start *start, const pthread_attr_t *attributes) 
     release();
 }
 
-/* No thread was created for this start. */
+/* Gives up a start for which no thread was created: frees it and its reserved seat. */
 static void give_up(struct start *start) {
     hold();
     struct seat *s = &seats[start->reserved];
@@ -117,7 +120,7 @@ int neutrino_pthread_create(pthread_t *thread, const pthread_attr_t *attributes,
     *start = (struct start){.function = function, .argument = argument, .id = thread};
     reserve_both(start, attributes);
     if (attributes) {
-        hosts = *attributes; /* for this call alone */
+        hosts = *attributes; /* only for this call */
         pthread_attr_setinheritsched(&hosts, PTHREAD_INHERIT_SCHED);
     }
     int error = pthread_create(&created, attributes ? &hosts : NULL, run_thread, start);
@@ -126,7 +129,8 @@ int neutrino_pthread_create(pthread_t *thread, const pthread_attr_t *attributes,
     return error;
 }
 
-/* A tid as SchedSet and SchedGet take it: 0, a tid, or what pthread_self returned, as an int. Returns 0 for none. */
+/* Returns the tid that a program means in SchedSet and SchedGet: 0 for the caller, a tid, or the result of
+ * pthread_self as an int. Returns 0 if there is no such thread. */
 static int named_tid(int tid) {
     if (tid == 0) return seat;
     if (tid >= 1 && tid <= SEATS) return tid;
@@ -218,7 +222,8 @@ int neutrino_sched_get_priority_max(int policy) { return sched_get_priority_max(
 
 int neutrino_gettid(void) { return seat || !enter() ? seat : -1; }
 
-/* The tid of a thread of the program; the calling one, which 0 is, too, takes a seat if it has none. */
+/* Returns the tid of a thread of the program, or 0. The thread 0 is the caller. The caller takes a seat if it
+ * has none. */
 static int tid_of_thread(pthread_t thread) {
     if (!thread || pthread_equal(thread, pthread_self())) return enter() ? 0 : seat;
     return tid_of(thread);
@@ -240,10 +245,12 @@ int neutrino_pthread_getschedparam(pthread_t thread, int *policy, struct sched_p
     return got < 0 ? ESRCH : 0;
 }
 
-/* Cancels a thread, and ends the call that it is blocked in. It ends where that call returns. */
+/* Cancels a thread, and ends the call in which it is blocked. The thread ends when that call returns. */
 int neutrino_pthread_cancel(pthread_t thread) {
     int before = errno, error = pthread_cancel(thread);
-    hold(); /* so that no seat gets another thread; one that takes its seat later finds the cancellation first */
+    /* Under the lock no seat gets another thread. If a thread takes its seat later, it finds the cancellation
+     * first. */
+    hold();
     int tid = error ? 0 : tid_under_lock(thread);
     if (tid && seats[tid].use == TAKEN) neutrino_cancel(kernel, tid);
     release();
@@ -251,7 +258,7 @@ int neutrino_pthread_cancel(pthread_t thread) {
     return error;
 }
 
-/* The host has names of at most 15 bytes; and 0 is the calling thread. */
+/* Sets a thread's name, cut to the 15 bytes that the host keeps. The thread 0 is the caller. */
 int neutrino_pthread_setname_np(pthread_t thread, const char *name) {
     char cut[THREAD_NAME];
     if (!thread) thread = pthread_self();
@@ -261,7 +268,7 @@ int neutrino_pthread_setname_np(pthread_t thread, const char *name) {
     return error;
 }
 
-/* Gives the calling thread a name, and its old one. Returns 0 or an errno. */
+/* Sets the calling thread's name, and writes its old name. Returns 0 or an errno. */
 static int change_name(struct _thread_name *name) {
     char new[THREAD_NAME], old[THREAD_NAME];
     int length = name->new_name_len;

@@ -1,25 +1,25 @@
 /* Timers, timeouts and clocks. Tested, not proved.
  *
- * A timer whose event is a pulse is the host's timerfd, for which the front's own thread waits. Any other is the host's
- * timer. */
+ * A timer whose event is a pulse is a timerfd of the host. The front's own thread waits for it. Any other
+ * timer is a timer of the host. */
 #include <sys/epoll.h>
 #include <sys/timerfd.h>
 
 struct timer {
     bool is_used;
-    int fd;      /* of a timer of pulses, or -1 */
+    int fd;      /* the timerfd of a timer of pulses, or -1 */
     void *hosts; /* the host's timer */
     clockid_t clock;
-    int flags; /* with which it was set last */
+    int flags; /* the flags with which it was last set */
     _Atomic int overruns;
-    _Atomic unsigned settings; /* how often it was set */
+    _Atomic unsigned settings; /* the number of times that it was set */
     struct sigevent event;
 };
 
-static struct timer timers[TIMERS]; /* by id, which begins with 1 */
+static struct timer timers[TIMERS]; /* by id; the first id is 1 */
 static int watched = -1;            /* the epoll of the front's own thread */
 
-/* The host's functions, as they are: the headers have QNX's timer_t. */
+/* The host's own functions. The headers declare them with QNX's timer_t. */
 int hosts_create(clockid_t id, struct sigevent *event, void **timer) __asm__("timer_create");
 int hosts_settime(void *t, int flags, const struct itimerspec *value, struct itimerspec *old) __asm__("timer_settime");
 int hosts_gettime(void *timer, struct itimerspec *value) __asm__("timer_gettime");
@@ -42,7 +42,7 @@ static int watch_timer(struct timer *new, int at) {
     return fail(EAGAIN);
 }
 
-/* Opens the host's timer, with an event as the host has it. */
+/* Opens a timer of the host, with the event in the host's form. */
 static int open_hosts_timer(struct timer *new) {
     struct sigevent hosts = new->event;
     hosts.sigev_notify = SIGEV_GET_TYPE(&hosts);
@@ -127,15 +127,18 @@ int TimerInfo(pid_t pid, timer_t id, int flags, struct _timer_info *info) {
     for (; flags & _NTO_TIMER_SEARCH && id >= 1 && id <= TIMERS && !timers[id - 1].is_used; id++) continue;
     const struct timer *t = timer_of(id);
     if (!t || neutrino_timer_gettime(id, &left)) return -1;
-    *info = (struct _timer_info){.otime = itimer_of(&left), .notify = t->event.sigev_notify, .clockid = t->clock,
-                                 .overruns = (uint32_t)neutrino_timer_getoverrun(id), .event = t->event};
+    *info = (struct _timer_info){.otime = itimer_of(&left),
+                                 .notify = t->event.sigev_notify,
+                                 .clockid = t->clock,
+                                 .overruns = (uint32_t)neutrino_timer_getoverrun(id),
+                                 .event = t->event};
     info->itime = info->otime;
     info->flags = (info->otime.nsec ? _NTO_TI_ACTIVE : 0u) | (t->flags & TIMER_ABSTIME ? _NTO_TI_ABSOLUTE : 0u);
     return id;
 }
 
-/* Sends the pulses of a timer's expiries, and counts those that it can't send, unless the timer was set meanwhile. By
- * the front's own thread. */
+/* Sends the pulses of a timer's expiries, and counts the pulses that it can't send, unless the timer was set
+ * meanwhile. The front's own thread calls this. */
 static void expire(struct timer *t) {
     uint64_t times = 0;
     hold();
@@ -150,7 +153,7 @@ static void expire(struct timer *t) {
     release();
 }
 
-/* ---- clocks, which no program sets */
+/* ---- clocks; no program can set them */
 
 int ClockTime(clockid_t id, const uint64_t *new, uint64_t *old) {
     struct timespec time;
@@ -168,7 +171,8 @@ int ClockPeriod(clockid_t id, const struct _clockperiod *new, struct _clockperio
 
 /* ---- timeouts */
 
-static _Thread_local uint64_t join_time; /* in which the next pthread_join has to end, and 1 more; 0: it has not to */
+/* The nanoseconds after which the next pthread_join times out, plus 1; 0: it has no timeout. */
+static _Thread_local uint64_t join_time;
 
 int neutrino_pthread_join(pthread_t thread, void **value) {
     uint64_t time = join_time;

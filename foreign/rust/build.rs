@@ -1,7 +1,7 @@
-//! Links the static library. `BALSAEUCHRE_LIB_DIR` names the folder that has it: `libbalsaeuchre.a`, as it is
-//! installed, or `libbalsaeuchre_c.a` with the heap's `liblibc_c.a`. Without it the library is the one that `rt lib`
-//! made in the clone that this package lies in, and the heap the toolchain's. A library that `foreign/unproved` built is
-//! taken only where the variable names its folder, and is warned of.
+//! Links the static library. `BALSAEUCHRE_LIB_DIR` names the folder with the library: `libbalsaeuchre.a`, as
+//! it is installed, or `libbalsaeuchre_c.a` with the heap's `liblibc_c.a`. If the variable isn't set, it
+//! takes the library that `rt lib` built in the clone of this package, and the toolchain's heap. It takes a
+//! library that `foreign/unproved` built only if the variable names its folder, and prints a warning.
 
 use std::path::{Path, PathBuf, absolute};
 use std::process::Command;
@@ -9,7 +9,8 @@ use std::{env, fs};
 
 const VARIABLE: &str = "BALSAEUCHRE_LIB_DIR";
 
-/// Returns the folder of the library in a clone, and the toolchain's folder of the heap, which `rt doc` tells.
+/// Returns the folder of the library in a clone, and the toolchain's folder of the heap, which `rt doc`
+/// names.
 fn built() -> Vec<PathBuf> {
     let here = env::var_os("CARGO_MANIFEST_DIR").expect("cargo sets it");
     let mut folders = vec![Path::new(&here).join("../../crates/balsaeuchre_c/out")];
@@ -19,7 +20,7 @@ fn built() -> Vec<PathBuf> {
     folders
 }
 
-/// Whether an archive has the member of an unproved library. A member's name takes 16 bytes.
+/// Returns whether an archive has the member of an unproved library. A member's name takes 16 bytes.
 fn is_unproved(archive: &Path) -> bool {
     let member = b"unproved.o/     ";
     fs::read(archive).is_ok_and(|bytes| bytes.windows(member.len()).any(|window| window == member))

@@ -1,4 +1,5 @@
-/* What a library over the layer uses: interruptions, hooks, and a look at all threads. Tested, not proved. */
+/* Functions for a library over the layer: interruptions, hooks, and a look at all
+ * threads. Tested, not proved. */
 int neutrino_interruptible(void) {
     if (refuse_call()) return -1;
     self->interruptible = true;

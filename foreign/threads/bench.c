@@ -1,6 +1,7 @@
-/* bench CLIENTS SERVERS ROUNDS [BUFFER [PAUSE]]: microseconds a round trip, as bench/roundtrips.py wants it.
- * A client sends 4 bytes with room for 8, a server receives them into BUFFER (16) bytes and replies with 4. A client
- * waits PAUSE milliseconds before it sends; if that is less than 0, a server waits so long before it receives.
+/* bench CLIENTS SERVERS ROUNDS [BUFFER [PAUSE]]: prints the microseconds of a round trip, for
+ * bench/roundtrips.py. A client sends 4 bytes with room for 8. A server receives them into BUFFER (16) bytes
+ * and replies with 4. A client waits PAUSE milliseconds before it sends. If PAUSE is less than 0, a server
+ * waits for -PAUSE milliseconds before it receives.
  */
 #include <sys/neutrino.h>
 

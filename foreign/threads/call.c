@@ -1,4 +1,4 @@
-/* Makes a call, and waits for its end. Tested, not proved. */
+/* Makes a call, and waits for its completion. Tested, not proved. */
 
 /* Starts the timeout that the thread set for this call, if any. */
 static void start_timeout(struct place *p, struct call *c) {
@@ -9,17 +9,21 @@ static void start_timeout(struct place *p, struct call *c) {
     c->until = start + p->time < start ? UINT64_MAX : start + p->time;
 }
 
-/* The room of a call's event. Of a thread's calls only these two kinds end more than one call of another thread. What
- * others bring fits into the thread's own room, unless a buffer is longer than half of it. */
+/* The room of a call's event. Only ChannelDestroy and ConnectDetach complete more than one call
+ * of another thread. The completions of other calls fit into the thread's own room, unless a
+ * buffer is longer than half of it. */
 static struct event event_of(neutrino *k, const struct place *p) {
     size_t at = (size_t)(p - k->places);
     bool ends_many = p->kind == BALSAEUCHRE_CHANNEL_DESTROY || p->kind == BALSAEUCHRE_CONNECT_DETACH;
     struct event e = {.rows = k->rows + OWN_ROWS * at, .bytes = k->near[at], .bytes_len = NEAR};
-    if (ends_many || k->most > NEAR / 2) e.bytes = k->event.bytes, e.bytes_len = k->event.bytes_len;
+    if (ends_many || k->most > NEAR / 2) {
+        e.bytes = k->event.bytes;
+        e.bytes_len = k->event.bytes_len;
+    }
     return e;
 }
 
-/* Makes the call, and waits for its end. p->error and p->result have the result. */
+/* Makes the call, and waits for its completion. p->error and p->result have the result. */
 static void make(neutrino *k, struct place *p, struct call *c) {
     uint64_t ended = 0, own = bit_of(k, p);
     start_timeout(p, c);

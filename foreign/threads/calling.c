@@ -1,7 +1,7 @@
 /* The calling thread. Tested, not proved. */
 
-/* The kernel and the place of the calling thread. self is null if it has not joined. inside counts the calls and
- * locks that it is in, for its own signal handlers. */
+/* The kernel and the place of the calling thread. self is null if the thread has not joined. inside counts
+ * the calls and locks in which the thread is. Its signal handlers need this count. */
 static _Thread_local neutrino *kernel;
 static _Thread_local struct place *self;
 static _Thread_local volatile sig_atomic_t inside;

@@ -1,7 +1,9 @@
-/* Delivers endings from the kernel's rows to the threads that wait for them. Tested, not proved.
- * All of this is under the lock. A thread with an open call is in that call, so its struct call and its buffers live.
+/* Delivers completions from the kernel's rows to the threads that wait for them. Tested, not proved.
+ *
+ * All functions here run under the lock. A thread with an open call is in that call, so its struct call
+ * and its buffers still exist.
  */
-/* Shows a call to the hook, with the first rows of its event. */
+/* Shows a call to the hook, with a copy of its event's rows. */
 static void show_call(neutrino *k, const struct call *c, size_t room_len, const struct event *e) {
     memcpy(k->seen.rows, e->rows, e->done.endings * sizeof *e->rows);
     k->seen.done = e->done;
@@ -10,9 +12,9 @@ static void show_call(neutrino *k, const struct call *c, size_t room_len, const 
     k->hooks.call(&c->request, c->sent, c->sent_len, c->room, room_len, &k->seen);
 }
 
-/* Makes a call in the library, with this much of its buffer. */
+/* Makes a call in the library, with room_len bytes of its buffer. */
 static uint32_t make_in_library(neutrino *k, const struct call *c, size_t room_len, struct event *e) {
-    uint8_t none[3] = {0}; /* what a length of 0 points to */
+    uint8_t none[3] = {0}; /* pointers whose length is 0 point here */
     uint32_t error = balsaeuchre_make_call(&k->library, &c->request, c->sent_len ? c->sent : none, c->sent_len,
                                            room_len ? c->room : none + 1, room_len, e->rows, BALSAEUCHRE_ROWS,
                                            e->bytes_len ? e->bytes : none + 2, e->bytes_len, &e->done);
@@ -20,7 +22,7 @@ static uint32_t make_in_library(neutrino *k, const struct call *c, size_t room_l
     return error;
 }
 
-/* Copies the facts of a held message from the row of an Info or a message. */
+/* Copies the facts of a held message from the completion of an Info or of a receive. */
 static void fill_info(const struct place *sender, const balsaeuchre_ending *row, struct _msg_info *info) {
     memset(info, 0, sizeof *info);
     info->nd = info->srcnd = ND_LOCAL_NODE;
@@ -36,8 +38,8 @@ static void fill_info(const struct place *sender, const balsaeuchre_ending *row,
     info->flags = sender->asked ? _NTO_MI_UNBLOCK_REQ : 0;
 }
 
-/* Reads the rest of a message, behind the front of the buffer, by a call of the receiver. If there is no memory, msglen
- * has only the length of the front. */
+/* Reads the rest of a message to the buffer after its front, by a call of the receiver. If there is no
+ * memory, msglen has only the length of the front. */
 static void read_on(neutrino *k, struct place *p, struct place *sender, const balsaeuchre_ending *row) {
     size_t length = (row->srcmsglen < p->call->room_len ? row->srcmsglen : p->call->room_len) - FRONT;
     uint8_t *behind = (uint8_t *)p->call->room + FRONT;
@@ -84,15 +86,27 @@ static void receive_pulse(neutrino *k, struct place *p, const balsaeuchre_ending
     if (length) memcpy(p->call->room, &pulse, length);
 }
 
-/* Writes the result of an ending for its thread. */
+/* Writes the result of a completion for its thread. */
 static void answer(neutrino *k, struct place *p, const balsaeuchre_ending *row) {
     switch (row->mark) {
-    case BALSAEUCHRE_MESSAGE: receive_message(k, p, row); break;
-    case BALSAEUCHRE_PULSED: receive_pulse(k, p, row); break;
-    case BALSAEUCHRE_FAILED: p->error = host_error(row->errno_); break;
-    case BALSAEUCHRE_ERRORED: p->error = row->value; break;
-    case BALSAEUCHRE_REPLIED: p->result = (long)row->status; break;
-    case BALSAEUCHRE_COUNT: p->result = (long)row->count; break;
+    case BALSAEUCHRE_MESSAGE:
+        receive_message(k, p, row);
+        break;
+    case BALSAEUCHRE_PULSED:
+        receive_pulse(k, p, row);
+        break;
+    case BALSAEUCHRE_FAILED:
+        p->error = host_error(row->errno_);
+        break;
+    case BALSAEUCHRE_ERRORED:
+        p->error = row->value;
+        break;
+    case BALSAEUCHRE_REPLIED:
+        p->result = (long)row->status;
+        break;
+    case BALSAEUCHRE_COUNT:
+        p->result = (long)row->count;
+        break;
     case BALSAEUCHRE_CHANNEL:
         p->result = new_name(k, CHANNELS, row->id, p->pid);
         k->channels[place_in(&k->tables[CHANNELS], (int)p->result)].receiver = p->tid;
@@ -101,17 +115,22 @@ static void answer(neutrino *k, struct place *p, const balsaeuchre_ending *row) 
         p->result = new_name(k, CONNECTIONS, row->id, p->pid);
         k->connections[place_in(&k->tables[CONNECTIONS], (int)p->result)].peer = p->number;
         break;
-    case BALSAEUCHRE_INFORMED: fill_info(&k->places[k->place_of[row->sender]], row, p->call->info); break;
-    case BALSAEUCHRE_THREAD_STATE: p->result = p->call->own_priority ? row->priority : row->state; break;
+    case BALSAEUCHRE_INFORMED:
+        fill_info(&k->places[k->place_of[row->sender]], row, p->call->info);
+        break;
+    case BALSAEUCHRE_THREAD_STATE:
+        p->result = p->call->own_priority ? row->priority : row->state;
+        break;
     case BALSAEUCHRE_DONE:
         if (p->kind == BALSAEUCHRE_CHANNEL_DESTROY) end_name(k, CHANNELS, p->number);
         if (p->kind == BALSAEUCHRE_CONNECT_DETACH) end_name(k, CONNECTIONS, p->number);
         break;
-    default: abort();
+    default:
+        abort();
     }
 }
 
-/* Delivers an ending. bytes are those of its event. */
+/* Delivers a completion. bytes are its event's bytes. */
 static void deliver(neutrino *k, struct place *p, const balsaeuchre_ending *row, const uint8_t *bytes) {
     p->error = 0;
     p->result = 0;
@@ -125,7 +144,8 @@ static void deliver(neutrino *k, struct place *p, const balsaeuchre_ending *row,
     p->call = NULL;
 }
 
-/* Delivers the endings of an event, except those of clocks. Returns the threads whose calls have ended. */
+/* Delivers the completions of an event, except for clocks. Returns a bit for each
+ * thread whose call is completed. */
 static uint64_t deliver_rows(neutrino *k, const struct event *e) {
     uint64_t ended = 0;
     for (size_t at = 0; at < e->done.endings; at++) {

@@ -2,7 +2,7 @@
 _Static_assert(NEUTRINO_VERSION == BALSAEUCHRE_VERSION, "both headers are of one version");
 
 static pthread_once_t once = PTHREAD_ONCE_INIT;
-static pthread_key_t ending; /* of a thread: its destructor leaves */
+static pthread_key_t ending; /* a thread's key: its destructor leaves the kernel */
 static int refused;          /* the error with which the host refused the key or the handler */
 
 static void leave_at_end(void *place) {
@@ -10,7 +10,7 @@ static void leave_at_end(void *place) {
     if (self) neutrino_leave();
 }
 
-/* Runs in a forked child, whose one thread may have inherited the lock while another thread held it. */
+/* Runs in a forked child. Its only thread may have inherited the lock while another thread held it. */
 static void forget(void) { self = NULL; }
 
 static void prepare(void) {
@@ -18,10 +18,11 @@ static void prepare(void) {
     if (!refused) refused = pthread_atfork(NULL, NULL, forget);
 }
 
-/* Fails if the lock may not be taken. */
+/* Fails if this thread may not take the lock. EPERM: in a forked child. EDEADLK: inside a call. */
 static int refuse(const neutrino *k) { return k->process != getpid() ? fail(EPERM) : inside ? fail(EDEADLK) : 0; }
 
-/* Fills the roster: the threads, and a clock for each process, with a number that no thread has. */
+/* Fills the roster with the threads, and with a clock for each process. A clock has a number that no thread
+ * has. Returns the roster's length. */
 static size_t roster_of(neutrino *k, const struct neutrino_thread *threads, size_t count, balsaeuchre_thread *roster) {
     bool is_taken[256] = {true}, has_clock[256] = {false};
     size_t length = count;
@@ -41,7 +42,7 @@ static size_t roster_of(neutrino *k, const struct neutrino_thread *threads, size
     return length;
 }
 
-/* Fills a kernel. Returns 0 or an errno. */
+/* Fills in a kernel. Returns 0 or an errno. */
 static int open_kernel(neutrino *k, const struct neutrino_thread *threads, size_t count) {
     balsaeuchre_thread roster[2 * PLACES] = {{0, 0, 0}};
     memset(k, 0, offsetof(neutrino, rows));
@@ -53,8 +54,7 @@ static int open_kernel(neutrino *k, const struct neutrino_thread *threads, size_
     memset(k->place_of, PLACES, sizeof k->place_of);
     for (size_t at = 0; at < count; at++) {
         k->place_of[threads[at].tid] = (uint8_t)at;
-        k->places[at] = (struct place){.word = ENDED, .tid = threads[at].tid, .pid = threads[at].pid,
-                                       .looks = looks};
+        k->places[at] = (struct place){.word = ENDED, .tid = threads[at].tid, .pid = threads[at].pid, .looks = looks};
     }
     open_tables(k);
     pthread_mutex_init(&k->lock, NULL);
@@ -67,7 +67,8 @@ static void say_version(const char *part, uint32_t version) {
     dprintf(STDERR_FILENO, "balsaeuchre: %s has version %u.%u%s\n", part, number / 100, number % 100, proof);
 }
 
-/* Whether the program's header, this layer and the library are of one version. If not, standard error says of which. */
+/* Whether the program's header, this layer and the library have the same version. If not, prints the three
+ * versions on standard error. */
 static bool is_one_version(uint32_t header) {
     uint32_t library = balsaeuchre_version();
     if (header == NEUTRINO_VERSION && library == NEUTRINO_VERSION) return true;

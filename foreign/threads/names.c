@@ -1,10 +1,11 @@
 /* Names: ints for the kernel's ids, which have 40 bits. Tested, not proved.
  *
- * A name is a place in a table and a turn, so it leads to the id that it was made for and, once that is gone, to none.
- * All names of a table are numbered on, one after another, and a number whose place is taken is left out. So of two
- * names it is known which one is older. A name comes again after 2^31 channels or messages, or 2^30 connections, of
- * which those count that are left out: at worst all but one place are taken, and it comes again after 2^25 messages (or
- * 2^20 connections). All of this is under the lock.
+ * A name is a place in a table and a turn. So it leads to the id for which it was made and, once that id
+ * is gone, to none. A table gives its numbers in rising order, and leaves out a number whose place is
+ * taken. So the order of two names says which is older. A name comes again after 2^31 channels or
+ * messages, or after 2^30 connections. The numbers that are left out also count. In the worst case all
+ * places except one are taken, and a name comes again after 2^25 messages or 2^20 connections. All
+ * functions here run under the lock.
  */
 static void open_tables(neutrino *k) {
     k->tables[CHANNELS] = (struct names){k->channels, INT_MAX >> CHANNEL_BITS, CHANNEL_BITS};
@@ -12,20 +13,22 @@ static void open_tables(neutrino *k) {
     k->tables[MESSAGES] = (struct names){k->messages, INT_MAX >> MESSAGE_BITS, MESSAGE_BITS};
     k->event.rows = k->rows + OWN_ROWS * PLACES;
     k->side.rows = k->event.rows + BALSAEUCHRE_ROWS;
-    k->next[CHANNELS] = 1; /* as under QNX. The others begin with the turn 1 */
+    k->next[CHANNELS] = 1; /* as under QNX; the other tables begin with turn 1 */
     k->next[CONNECTIONS] = 1 << CONNECTION_BITS;
     k->next[MESSAGES] = 1 << MESSAGE_BITS;
 }
 
 static int place_in(const struct names *names, int number) { return number & ((1 << names->bits) - 1); }
 
-/* The number that a table has at this serial. Serials don't come again; behind the last number is that of turn 1. */
+/* The number that a table has at this serial. Serials don't come again. After the last number
+ * come the numbers of turn 1. */
 static int number_at(const struct names *names, uint64_t serial) {
     uint64_t first = 1ull << names->bits, count = (uint64_t)names->turns << names->bits;
     return (int)(serial < first + count ? serial : first + (serial - first) % count);
 }
 
-/* There is a free place if the kernel made an id, as it allows no more ids at a time than places. */
+/* Makes the name of a new id. There is a free place, because the kernel has no more ids at a time
+ * than the table has places. */
 static int new_name(neutrino *k, enum table table, uint64_t id, uint8_t owner) {
     struct names *names = &k->tables[table];
     for (int looked = 0; looked < 1 << names->bits; looked++) {
@@ -40,7 +43,8 @@ static int new_name(neutrino *k, enum table table, uint64_t id, uint8_t owner) {
     abort();
 }
 
-/* Returns the id of a number, if the owner is 0 or the name's; or 0, which the kernel refuses. */
+/* Returns the id of a number, if owner is 0 or the name's owner. Otherwise returns 0,
+ * which the kernel refuses. */
 static uint64_t id_of(const neutrino *k, enum table table, int number, uint8_t owner) {
     const struct names *names = &k->tables[table];
     if (number <= 0) return 0;

@@ -1,4 +1,4 @@
-/* The layer of threads as one object, from which only the names of sys/neutrino.h are seen. Tested, not proved. */
+/* The layer of threads as one object, which exports only the names of sys/neutrino.h. Tested, not proved. */
 #define _GNU_SOURCE
 #include "layer.h"
 

@@ -1,9 +1,9 @@
-/* Names that programs choose, as terminals may have them. Tested, not proved. */
+/* Makes names that programs choose safe for terminals. Tested, not proved. */
 #ifndef BALSAEUCHRE_PRINTABLE_H
 #define BALSAEUCHRE_PRINTABLE_H
 
-/* Puts ? for each byte that isn't printable ASCII, as ls does in the C locale: an escape would act on the terminal, and
- * an end of line would begin a line of the name's own. */
+/* Replaces each byte that isn't printable ASCII by ?, as ls does in the C locale. An escape would act on the
+ * terminal. After an end of line the name could forge a line of the output. */
 static void make_printable(char *name) {
     for (; *name; name++) {
         if (*name < ' ' || *name > '~') *name = '?';

@@ -1,11 +1,13 @@
-/* The lock, and the words at which threads sleep. Tested, not proved; models/sleeping.py explores the word. */
+/* The lock, and the words at which threads sleep. Tested, not proved; models/sleeping.py explores the
+ * word. */
 #include <linux/futex.h>
 #include <sys/syscall.h>
 
-/* The number of tries for the lock, and of looks at its word, before a thread sleeps. Looks in vain halve the number
- * for the next call, down to a fifth, which takes some microseconds: with fewer, two threads that slept once would
- * always sleep. It never yields its core: on a busy machine that takes milliseconds, and a sleep ends at once. On one
- * processor it doesn't look, since the thread that it waits for can't run meanwhile. */
+/* How many times a thread tries the lock, and looks at its word, before it sleeps. If all looks fail, the
+ * thread's next call has half as many, but at least a fifth of WORD_LOOKS, which takes some microseconds.
+ * With fewer looks, two threads that slept once would always sleep. A thread never yields its core: on a busy
+ * machine a yield takes milliseconds, while a sleep ends at once. On one processor it doesn't look at its
+ * word, because the thread for which it waits can't run meanwhile. */
 #ifndef LOCK_LOOKS
 #define LOCK_LOOKS 100
 #endif
@@ -17,7 +19,8 @@ static void pause_briefly(void) {
 #ifdef __x86_64__
     __builtin_ia32_pause();
 #else
-    atomic_signal_fence(memory_order_seq_cst); /* looks without a pause, on a processor that this isn't tested on */
+    /* On other processors, on which this isn't tested, it looks without a pause. */
+    atomic_signal_fence(memory_order_seq_cst);
 #endif
 }
 
@@ -48,7 +51,7 @@ static void open_word(struct place *p, bool interrupted) {
 
 static bool is_ended(struct place *p) { return atomic_load_explicit(&p->word, memory_order_acquire) == ENDED; }
 
-/* Looks at the word for a while. Returns whether the call has ended. */
+/* Spins at the word. Returns whether the call is completed. */
 static bool look(struct place *p) {
     for (int looks = 0; looks <= p->looks; looks++) {
         uint32_t word = atomic_load_explicit(&p->word, memory_order_acquire);
@@ -65,8 +68,8 @@ static bool look(struct place *p) {
 
 enum woken { HAS_ENDED, TIMED_OUT, WAS_INTERRUPTED };
 
-/* Waits until the call has ended or is interrupted, or until a time that is not 0. An interruption changes the word,
- * which futex compares, so none is lost, wherever in here its handler runs. */
+/* Waits until the call is completed or interrupted, or until a time that is not 0. An interruption changes
+ * the word, which futex compares. So no interruption is lost, wherever in this function its handler runs. */
 static enum woken sleep_until(struct place *p, uint64_t until) {
     struct timespec end = {(time_t)(until / 1000000000u), (long)(until % 1000000000u)};
     uint32_t open = OPEN;
@@ -88,7 +91,7 @@ static bool interrupt_word(struct place *p) {
            atomic_compare_exchange_strong(&p->word, &asleep, INTERRUPTED);
 }
 
-/* Sets the words of these threads to ENDED. Returns those that sleep. */
+/* Sets the words of these threads to ENDED. Returns the threads that sleep. */
 static uint64_t tell(neutrino *k, uint64_t ended) {
     uint64_t asleep = 0;
     for (; ended; ended &= ended - 1) {

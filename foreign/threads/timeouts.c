@@ -1,9 +1,9 @@
-/* Timeouts and interruptions: a thread that waits too long, or is interrupted, is unblocked by its process's clock, a
- * hidden thread of the kernel that does nothing else. Tested, not proved.
+/* Timeouts and interruptions. If a thread waits too long or is interrupted, its process's clock unblocks it.
+ * The clock is a hidden thread of the kernel that does nothing else. Tested, not proved.
  */
 
-/* Unblocks a thread whose call is open, under the lock. Returns whether the kernel did so. Adds the threads whose calls
- * ended by that; a call whose server got a pulse stays open. */
+/* Unblocks a thread whose call is open, under the lock. Returns false if the kernel refuses. Adds the threads
+ * whose calls it completes to *ended. A call whose server gets a pulse stays open. */
 static bool unblock(neutrino *k, struct place *p, uint64_t *ended) {
     uint8_t clock = k->clock_of[p->pid];
     struct call c = {.request = {.kind = BALSAEUCHRE_UNBLOCK, .thread = clock, .target = p->tid}};
@@ -19,15 +19,19 @@ static bool unblock(neutrino *k, struct place *p, uint64_t *ended) {
     return true;
 }
 
-/* Unblocks the calling thread after its timeout, or since it is interrupted. Returns the time at which it has to try
- * again, or 0: it has to if it may time out in a later state, or if the kernel refused the Unblock. */
+/* Unblocks a thread after its timeout, or because it is interrupted. Returns the time at which this has to
+ * be tried again, or 0. It has to be tried again if the call may time out in a later state, or if the
+ * kernel refused the Unblock. */
 static uint64_t end_early(neutrino *k, struct place *p, enum woken woken) {
     enum { LATER = 1000000 }; /* nanoseconds */
     uint64_t ended = 0, asleep = 0, again = 0;
     lock(k);
     if (!is_ended(p)) {
         struct call *c = p->call;
-        if (woken == WAS_INTERRUPTED) c->interrupted = true, open_word(p, false);
+        if (woken == WAS_INTERRUPTED) {
+            c->interrupted = true;
+            open_word(p, false);
+        }
         bool may = c->interrupted || c->states >> p->state & 1;
         bool may_later = p->state == STATE_SEND && c->states & _NTO_TIMEOUT_REPLY;
         if (may ? !unblock(k, p, &ended) : may_later) again = now() + LATER;

@@ -1,13 +1,13 @@
-/* Makes a call under the lock, as far as it goes without waiting. Tested, not proved. */
+/* Makes a call under the lock, up to the point at which it has to wait. Tested, not proved. */
 
-/* Returns the sender's priority, for a pulse. If the kernel refuses to tell it, it refuses the pulse too. */
+/* Returns the sender's priority, for a pulse. If the kernel refuses this State, it also refuses the pulse. */
 static uint8_t priority_of(neutrino *k, const struct place *p) {
     struct call c = {.request = {.kind = BALSAEUCHRE_STATE, .thread = p->tid, .target = p->tid}};
     uint32_t error = make_in_library(k, &c, 0, &k->event);
     return error || k->event.rows[0].mark != BALSAEUCHRE_THREAD_STATE ? 1 : k->event.rows[0].priority;
 }
 
-/* What a thread waits for, under the lock. */
+/* Returns a thread's state, and for which channel, message and server it waits. Under the lock. */
 static struct neutrino_blocked look_at(const neutrino *k, const struct place *p) {
     if (!p->call) return (struct neutrino_blocked){STATE_READY, 0, 0, 0};
     if (p->state == STATE_RECEIVE) return (struct neutrino_blocked){STATE_RECEIVE, p->number, 0, 0};
@@ -22,8 +22,8 @@ static size_t visible_length(const struct call *c) {
     return c->request.kind == BALSAEUCHRE_RECEIVE && c->room_len > FRONT ? FRONT : c->room_len;
 }
 
-/* Makes an event's room for bytes at least this long. Memory is taken and given back without the lock. Returns false if
- * there is none. */
+/* Makes an event's room for bytes at least this long. Memory is taken and given back without the lock.
+ * Returns false if there is no memory. */
 static bool grow(neutrino *k, struct event *e, size_t length) {
     uint8_t *old = malloc(length);
     if (!old) return false;
@@ -39,7 +39,8 @@ static bool grow(neutrino *k, struct event *e, size_t length) {
     return true;
 }
 
-/* Makes room for the buffers of all open calls, one of each thread, of which this one's is as long as never before. */
+/* Makes room for the buffers of all open calls, one for each thread. This thread's buffer is longer than all
+ * its buffers before. Returns false if there is no memory. */
 static bool promise(neutrino *k, struct place *p, size_t length) {
     size_t more = length - p->longest;
     lock(k);
@@ -57,7 +58,7 @@ static bool promise(neutrino *k, struct place *p, size_t length) {
     return grown;
 }
 
-/* Makes room for what a call brings, before it is made. Returns 0 or ENOMEM. */
+/* Makes room for the bytes of a call's completion, before the call is made. Returns 0 or ENOMEM. */
 static int make_room(neutrino *k, struct place *p, const struct call *c) {
     size_t length = visible_length(c), rest = c->request.kind == BALSAEUCHRE_RECEIVE ? c->room_len - length : 0;
     if (length > p->longest && !promise(k, p, length)) return ENOMEM;
@@ -67,8 +68,8 @@ static int make_room(neutrino *k, struct place *p, const struct call *c) {
     return 0;
 }
 
-/* Makes room for a call, and notes it in its thread's place, before the lock is taken: nobody looks at that before the
- * call is open. Returns 0 or ENOMEM. */
+/* Makes room for a call, and notes it in its thread's place. It needs no lock, because no other thread looks
+ * at the place before the call is open. Returns 0 or ENOMEM. */
 static int note_call(neutrino *k, struct place *p, struct call *c) {
     if (make_room(k, p, c)) return ENOMEM;
     c->request.thread = p->tid;
@@ -81,15 +82,16 @@ static int note_call(neutrino *k, struct place *p, struct call *c) {
     return 0;
 }
 
-/* After an Unblock: a thread whose message is still held waits for an answer to its server's pulse. */
+/* After an Unblock: if the thread's message is still held, its server has got a pulse, and the
+ * thread waits for the reply. */
 static void note_unblock(neutrino *k, int tid) {
     if (k->place_of[tid] == PLACES) return;
     struct place *p = &k->places[k->place_of[tid]];
     if (p->call && p->rcvid) p->asked = true;
 }
 
-/* Makes a noted call under the lock, and delivers the endings. Returns 0, and sets *ended to the threads whose calls
- * have ended; or returns an errno, and no call has. */
+/* Makes a noted call under the lock, and delivers the completions. Returns 0, and sets *ended to the threads
+ * whose calls are completed. Or returns an errno, and completes no call. */
 static int make_under_lock(neutrino *k, struct place *p, struct call *c, struct event *e, uint64_t *ended) {
     if (c->table) c->request.id = id_of(k, c->table, c->number, c->owner);
     if (p->kind == BALSAEUCHRE_PULSE && c->own_priority) c->request.priority = priority_of(k, p);

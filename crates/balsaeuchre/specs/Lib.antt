@@ -1,9 +1,9 @@
--- The words of the contracts that a caller sees.
--- how the bytes of a message, a reply or a read are copied, and what is counted
-pub use Rattle.qbase.specs.Laying
+-- The definitions in the contracts that a caller sees.
+-- how the bytes of a message, a reply or a read are copied and counted
+pub use Rattle.qbase.specs.Copying
 -- rosters
 pub use Rattle.qtables.specs.Members
--- the rules of the calls, the past, lawful traces and their properties
+-- the rules of the calls, the history, valid histories and their properties
 pub use Rattle.qrules.specs.Words as RuleWords
 pub use Rattle.qrules.specs.Trace
 pub use Rattle.qrules.specs.Facts
@@ -13,15 +13,15 @@ pub use Rattle.qrules.specs.Outcome
 pub use Rattle.qrules.specs.Past
 pub use Rattle.qrules.specs.Lawful
 pub use Rattle.qrules.specs.Properties
--- the kernel at its past, and a run of it
-pub use Rattle.qstate.specs.Thread
+-- the kernel after its history, and a run of calls
+pub use Rattle.qkernel_state.specs.Thread
 pub use Rattle.qkernel.specs.Kernel
 pub use Rattle.qkernel.specs.LentCall
 pub use Rattle.qkernel.specs.Stands
 pub use Rattle.qkernel.specs.Run
 pub use Rattle.qkernel.specs.Blocked
 -- the shared kernel and its ports
-pub use Rattle.qpast.specs.History as SeenPast
+pub use Rattle.qshared.specs.History as SeenPast
 pub use Rattle.qhandoff.specs.Words
 pub use Rattle.qshared.specs.Answered
 pub use Rattle.qshared.specs.Asking
@@ -31,19 +31,19 @@ pub use Rattle.qshared.specs.Names
 pub use Rattle.qshared.specs.Naming
 pub use Rattle.qshared.specs.TwoCalls
 pub use Rattle.qshared.specs.Unkept
--- the calls under QNX's names: what an endpoint did, how a call ends, and from what its result is read
-pub use Rattle.qcalls.specs.History
-pub use Rattle.qcalls.specs.Errors
-pub use Rattle.qcalls.specs.Results
-pub use Rattle.qcalls.specs.Making
-pub use Rattle.qcalls.specs.Coming
-pub use Rattle.qcalls.specs.Timing
-pub use Rattle.qcalls.specs.Closing
+-- the calls under QNX's names: the record of an endpoint, the effect of a call, and how its result is read
+pub use Rattle.balsaeuchre_calls.specs.History
+pub use Rattle.balsaeuchre_calls.specs.Errors
+pub use Rattle.balsaeuchre_calls.specs.Results
+pub use Rattle.balsaeuchre_calls.specs.Making
+pub use Rattle.balsaeuchre_calls.specs.Coming
+pub use Rattle.balsaeuchre_calls.specs.Timing
+pub use Rattle.balsaeuchre_calls.specs.Closing
 -- the laws
 pub mod Fitting
-pub use Rattle.qlaws.specs.Lawful as LawForms
-pub use Rattle.qlaws.specs.Endings
-pub use Rattle.qlaws.specs.OpenCalls
-pub use Rattle.qlaws.specs.Pending
-pub use Rattle.qlaws.specs.Ids
-pub use Rattle.qshared.specs.Laws
+pub use Rattle.qrules_laws.specs.Lawful as LawForms
+pub use Rattle.qrules_laws.specs.Completions
+pub use Rattle.qrules_laws.specs.OpenCalls
+pub use Rattle.qrules_laws.specs.Pending
+pub use Rattle.qrules_laws.specs.Ids
+pub use Rattle.qshared.specs.HistoryLaws

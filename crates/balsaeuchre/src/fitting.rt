@@ -1,11 +1,11 @@
-//! The law that each call ends with a result of its own kind.
+//! The law that each call completes with a result of its own kind.
 
-ghost use Rattle.balsaeuchre.specs.Fitting.{EndingsFit, FittingIsExpected, NeverUnexpected};
+ghost use Rattle.balsaeuchre.specs.Fitting.{CompletionsFit, FittingIsExpected, NeverUnexpected};
 
-/// States that in every lawful trace each call ends with a failure or a result of its kind, so that
-/// `CallError::Unexpected` is never read off an ending.
+/// In every valid history each call completes with a failure or a result of its kind, so
+/// `CallError::Unexpected` is never read from a completion.
 pub fn results_fit_calls()
-    ensures fit { EndingsFit }
+    ensures fit { CompletionsFit }
     ensures expected { FittingIsExpected }
     ensures never { NeverUnexpected }
 {}

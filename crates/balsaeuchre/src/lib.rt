@@ -1,12 +1,13 @@
-//! All that a caller of the kernel needs, under one name: in `calls` the calls of a thread of its own, in `simulator`
-//! the calls of many threads in one, in `shared` the kernel under its lock, and here the kernel itself.
+//! Everything that a caller of the kernel needs, under one name. `calls` has the calls of a thread that runs
+//! by itself. `simulator` has the calls of many threads, made by one. `shared` has the kernel under its lock.
+//! The kernel itself is here.
 //!
 //! `docs/LIBRARY.md` begins with a server and its client, and lists the items.
 #![tactic(auto)]
 
 pub mod calls;
 mod fitting;
-pub mod laws;
+pub mod history_laws;
 pub mod shared;
 pub mod simulator;
 
@@ -20,9 +21,9 @@ pub use qkernel::kernel::{CALL_LIMIT, Kernel};
 pub use qkernel::lent_call::LentCall;
 pub use qkernel::run::run;
 pub use qkernel::trace::Trace;
+pub use qkernel_state::completions::Completions;
+pub use qkernel_state::thread_ref::ThreadRef;
 pub use qmodel::call::{Call, Completion, Info, Mark};
 pub use qqueue::item::What;
-pub use qstate::endings::Endings;
-pub use qstate::seat::Seat;
 pub use qtables::member::Member;
 pub use qtables::roster::{Roster, THREAD_LIMIT};

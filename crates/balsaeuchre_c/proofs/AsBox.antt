@@ -1,4 +1,4 @@
--- The handle owns what a box at the same types owns.
+-- The handle owns the same memory as a box with the same types.
 use Rattle.balsaeuchre_c.proofs.Common.{Bx, RattleType, [], bare, dnil, impl, no, refl, tcons, tnil, ◌∷◌}
 use Rattle.std_heap.specs.contracts.GlobalAllocator.TheImpl.{dict, ghosts}
 use denote.Param.{arg, layout}

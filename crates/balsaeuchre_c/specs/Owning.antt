@@ -1,4 +1,4 @@
--- The memory that a `Handle` owns: that of a `Box<Session>`.
+-- The memory that a `Handle` owns: the memory of a `Box<Session>`.
 use base.Fml.{Fml}
 use base.Stored.{Coded}
 use denote.RawPtr.{Ptr}
@@ -8,7 +8,7 @@ use Rattle.std.specs.contracts.impls.GlobalAllocator.TheImpl.{ghosts}
 use Rattle.balsaeuchre_c.specs.declared.session.Session.{Session}
 use Rattle.balsaeuchre_c.specs.contracts.session.Session.{the_row}
 
--- the memory of a handle whose pointer leads to this session
+-- the memory of a handle whose pointer points to this session
 abbrev pub handle_owns : Global → Ptr → Session → Fml
 handle_owns alloc = box_owns (ghosts.dealloc_token alloc) the_row
 

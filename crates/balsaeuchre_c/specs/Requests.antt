@@ -1,4 +1,4 @@
--- The call that a request means.
+-- The call that a request encodes.
 use Rattle.std.specs.Prelude.{◌≡◌, ℕ, Bool, false, true, is_some, List, Option, None, Some, option_map}
 use Rattle.std.specs.Prelude.{option_and_then, ◌⊎◌, if◌then◌else◌}
 use Rattle.std.specs.List.{list_any}
@@ -9,24 +9,25 @@ use Rattle.qmodel.specs.declared.call.Call.{Call}
 use Rattle.qmodel.specs.declared.kind.CallKind.{CallKind}
 use Rattle.qmodel.specs.declared.kind.CallKind.TheVariants.{Reply, Write}
 use Rattle.qmodel.specs.declared.kind.TheConstants.{KINDS}
-use Rattle.qmodel.specs.declared.operands.Operand.{Operand}
-use Rattle.qmodel.specs.declared.operands.Operand.TheVariants as sort
+use Rattle.qmodel.specs.declared.operands.OperandKind.{OperandKind}
+use Rattle.qmodel.specs.declared.operands.OperandKind.TheVariants as sort
 use Rattle.qmodel.specs.declared.operands.Operands.{Operands}
 use Rattle.qmodel.specs.Kinds.{call_with, sorts_of}
-use Rattle.balsaeuchre_c.specs.declared.request.Request.{Request}
+use Rattle.balsaeuchre_c.specs.declared.request.CallRequest.{CallRequest}
 use Rattle.balsaeuchre_c.specs.Numbers.{numbered}
 
--- an operand is a priority
-abbrev pub is_priority : Operand → Bool
+-- true if an operand is a priority
+abbrev pub is_priority : OperandKind → Bool
 is_priority sort.Priority = true
 is_priority other = false
 
--- the priority of a request of this kind: 1 if the kind has none; none if it has one and this is 0
-abbrev pub priority_as : CallKind → Request → Option ℕ
+-- the priority of a call of this kind: 1 if the kind has no priority; none if it has one and the request's is
+-- 0
+abbrev pub priority_as : CallKind → CallRequest → Option ℕ
 priority_as kind r = if list_any is_priority (sorts_of kind) then priority_of r.priority else Some 1
 
--- the numbers of a request with this priority
-abbrev pub operands_at : Request → ℕ → Operands
+-- the operands in a request, with this priority
+abbrev pub operands_at : CallRequest → ℕ → Operands
 operands_at r p = record {
   id = r.id;
   thread = r.target;
@@ -40,24 +41,25 @@ operands_at r p = record {
   value = r.value;
 }
 
--- the numbers of a request of this kind
-abbrev pub operands_as : CallKind → Request → Option Operands
+-- the operands of a call of this kind; none if it has a priority and the request's is 0
+abbrev pub operands_as : CallKind → CallRequest → Option Operands
 operands_as kind r = option_map (operands_at r) (priority_as kind r)
 
--- the call of a request of this kind, with these bytes and this buffer; none if it needs a priority and has 0
-abbrev pub call_as : CallKind → Request → List ℕ → List ℕ → Option Call
+-- the call of this kind, with these bytes and this buffer; none if it has a priority and the request's is 0
+abbrev pub call_as : CallKind → CallRequest → List ℕ → List ℕ → Option Call
 call_as kind r sent room = option_map (λ o. call_with kind o sent room) (operands_as kind r)
 
--- whether a call of this kind borrows its bytes, as it never blocks
+-- true if a call of this kind borrows its bytes, since it never blocks
 abbrev pub borrows : CallKind → Bool
 borrows Reply = true
 borrows Write = true
 borrows other = false
 
--- the call of a request; none if no kind has its number, or if it needs a priority and has 0
-abbrev pub call_of : Request → List ℕ → List ℕ → Option Call
+-- the call that a request encodes; none if no kind has its number, or if the kind has a priority and the
+-- request's is 0
+abbrev pub call_of : CallRequest → List ℕ → List ℕ → Option Call
 call_of r sent room = option_and_then (λ kind. call_as kind r sent room) (numbered KINDS r.kind)
 
--- the reason why there is no call: the request means none, or else there is no memory
+-- the error if there is no call: the request encodes none, or it encodes one and there is no memory
 abbrev pub IsRefusedAs : Option Call → Errno → Type 0
 IsRefusedAs meant errno = ((meant ≡ None) × (errno ≡ Inval)) ⊎ ((is_some meant ≡ true) × (errno ≡ NoMemory))

@@ -1,4 +1,4 @@
--- The ending in a row.
+-- The completion in a row.
 use Rattle.std.specs.Prelude.{◌≡◌, ℕ, ◌==◌, length, List, [], take, Option, None, Some, option_map}
 use Rattle.std.specs.Prelude.{if◌then◌else◌}
 use Rattle.qbase.specs.declared.state.ThreadState.{ThreadState}
@@ -24,7 +24,7 @@ what_of r =
     else if r.what == 4 then Some (what.Disconnect r.process)
     else None
 
--- the state of a row
+-- the thread state in a row
 abbrev pub state_of : Row → Option ThreadState
 state_of r =
     if r.state == 1 then Some state.Ready
@@ -33,7 +33,7 @@ state_of r =
     else if r.state == 4 then Some (state.ReplyBlocked r.id)
     else None
 
--- the facts of a held message in a row
+-- the data of a held message in a row
 abbrev pub info_in : Row → Info
 info_in r = record {
   process = r.process;
@@ -45,7 +45,7 @@ info_in r = record {
   dstmsglen = r.dstmsglen;
 }
 
--- the mark in a row
+-- the result in a row
 abbrev pub mark_of : Row → Option Mark
 mark_of r =
     if r.mark == 1 then Some mark.Ok
@@ -61,21 +61,21 @@ mark_of r =
     else if r.mark == 11 then option_map (λ state. mark.State state r.priority) (state_of r)
     else None
 
--- the part of the buffer that is written for a call with this mark: the bytes that were copied into its
--- front; nothing if it took a pulse; else all of it, since a Write may have written anywhere over a reply
--- buffer
+-- the part of the buffer that is written for a call with this result: the bytes that were copied to its
+-- start, and nothing for a pulse. Otherwise it is the whole buffer, since a Write may have written anywhere
+-- in a reply buffer
 abbrev pub told_of : Mark → List ℕ → List ℕ
 told_of (mark.Message rcvid copied) buffer = take copied buffer
 told_of (mark.Count copied) buffer = take copied buffer
 told_of (mark.Pulse item priority what) buffer = []
 told_of other buffer = buffer
 
--- the bytes of the buffer that are written for an ending
+-- the bytes of a completion's buffer that are written
 abbrev pub told_bytes : Completion → List ℕ
 told_bytes e = told_of e.mark e.buffer
 
--- a row is that of this ending, whose bytes begin at `at` in the room for bytes, and of which `count` were
--- written
+-- the row has the call, the thread and the bytes of this completion: they begin at `at` in the byte array,
+-- and `count` of them were written
 pub record IsOf (r : Row) (e : Completion) (at count : ℕ) : Type 0 where
   pub call : r.call ≡ e.call
   pub thread : r.thread ≡ e.thread
@@ -83,23 +83,24 @@ pub record IsOf (r : Row) (e : Completion) (at count : ℕ) : Type 0 where
   pub start : r.start ≡ at
   pub written : r.written ≡ count
 
--- the row has the facts of a message, if there are any, except the number of copied bytes
+-- the row has the data of a message, if there is any, except the number of copied bytes
 abbrev pub Fills : Row → Option Info → Type 0
 Fills r None = Unit {0}
 Fills r (Some info) = record info { msglen = r.count } ≡ info_in r
 
--- the row has the message with this id, which was received with this count, and the kernel's facts of it
+-- the row has the data that the kernel has for the message with this id, and the number of copied bytes at
+-- its receipt
 pub record TellsMessage (r : Row) (s : State) (rcvid copied : ℕ) : Type 0 where
   pub count : r.count ≡ copied
   pub info : Option Info
   pub said : InfoAtTraces s rcvid info
   pub filled : Fills r info
 
--- if the ending is the receipt of a message, the row has the message
+-- if the completion is the receipt of a message, the row has the message
 abbrev pub TellsReceipt : Row → State → Completion → Type 0
 TellsReceipt r s e = (rcvid copied : ℕ) → e.mark ≡ mark.Message rcvid copied → TellsMessage r s rcvid copied
 
--- the row has the whole ending, and the kernel's facts, after the event, of a received message
+-- the row has the whole completion, and for a received message the kernel's data after the event
 pub record Tells (r : Row) (s : State) (e : Completion) (at count : ℕ) : Type 0 where
   pub of : IsOf r e at count
   pub mark : mark_of r ≡ Some e.mark

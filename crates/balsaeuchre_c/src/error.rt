@@ -1,4 +1,4 @@
-//! The numbers of errors.
+//! The numbers of errors, as the header for C has them.
 
 ghost use Rattle.std.specs.Prelude.{◌≡◌, ◌≤◌, Some};
 ghost use Rattle.qbase.specs.declared.errno.TheConstants.{ERRNOS};
@@ -6,7 +6,7 @@ ghost use Rattle.balsaeuchre_c.specs.Numbers.{numbered};
 
 use qbase::errno::Errno;
 
-/// Returns the number of an error.
+/// Returns the number of an error, 1 to 11.
 pub fn errno_number(errno: Errno) -> u8
     ensures value { numbered ERRNOS result ≡ Some errno }
     ensures low { 1 ≤ result }

@@ -25,7 +25,7 @@ impl Handle {
     ghost use Rattle.std.specs.Borrow.{sem};
     ghost use Rattle.balsaeuchre_c.specs.Lending.{LendsSession};
 
-    /// Returns the session behind the handle.
+    /// Returns the session that the handle owns.
     pub fn get_mut(&mut self) -> &mut Session
         ensures* writes_back { sem 𝓛 (LendsSession self.entry result) }
         ensures value { result.now ≡ self.old.session }
@@ -33,7 +33,7 @@ impl Handle {
         unsafe { &mut *(self.ptr as *mut Session) }
     }
 
-    /// Returns the box.
+    /// Returns the session in its box.
     pub fn into_box(self) -> Box<Session, Global>
         ensures { result.value ≡ self.session }
     {

@@ -11,19 +11,19 @@ use qbase::priority::Priority;
 use qkernel::call::Call;
 use qkernel::lent_call::LentCall;
 use qmodel::kind::CallKind;
-use qmodel::operands::{Operand, Operands};
+use qmodel::operands::{OperandKind, Operands};
 use std::alloc::Global;
 
-/// A call. `kind` says which, and each kind reads only the fields that it needs; its bytes and its buffer are passed
-/// beside it.
+/// A call of the kind `kind`, which reads only the fields that it needs. The call's bytes and its buffer are
+/// passed separately.
 #[repr(C)]
 #[derive(Clone, Copy)]
-pub struct Request {
+pub struct CallRequest {
     /// The number of the call's kind, 1 to 17.
     pub kind: u8,
     /// The thread that makes it.
     pub thread: u8,
-    /// The thread that a PrioritySet, a State or an Unblock is about.
+    /// The thread that a PrioritySet, a State or an Unblock names.
     pub target: u8,
     /// The priority of a Pulse or a PrioritySet, 1 to 255.
     pub priority: u8,
@@ -43,8 +43,9 @@ pub struct Request {
     pub offset: usize,
 }
 
-impl Request {
-    /// Returns the priority of a call of this kind: the lowest one if it has none, or `None` if it has one and this is 0.
+impl CallRequest {
+    /// Returns the priority of a call of this kind. It is the lowest if the kind has no priority, and `None`
+    /// if the kind has one and the field is 0.
     fn priority(&self, kind: CallKind) -> Option<Priority>
         ensures { result ≡ priority_as kind self.now }
     {
@@ -52,7 +53,7 @@ impl Request {
             .form()
             .operands
             .iter()
-            .any(|sort| matches!(sort, Operand::Priority))
+            .any(|sort| matches!(sort, OperandKind::Priority))
         {
             Priority::new(self.priority)
         } else {
@@ -60,7 +61,7 @@ impl Request {
         }
     }
 
-    /// Returns the numbers of a call of this kind, or `None` if it has a priority and this is 0.
+    /// Returns the operands of a call of this kind, or `None` if the kind has a priority and the field is 0.
     fn operands(&self, kind: CallKind) -> Option<Operands>
         ensures { result ≡ operands_as kind self.now }
     {
@@ -79,10 +80,11 @@ impl Request {
         })
     }
 
-    /// Returns the call of the request if this kind borrows its bytes, else `None`.
+    /// Returns the call of the request if this kind borrows its bytes, otherwise `None`.
     pub fn lent<'a>(&self, kind: CallKind, sent: &'a [u8]) -> Option<LentCall<'a>>
         ensures none { IfNone result (borrows kind ≡ false) }
-        ensures some { IfSome result (λ call. (room : List ℕ) → call_as kind self.now sent.now room ≡ Some (call_lent call)) }
+        ensures some { IfSome result
+            (λ call. (room : List ℕ) → call_as kind self.now sent.now room ≡ Some (call_lent call)) }
     {
         match kind {
             CallKind::Reply => Some(LentCall::Reply {
@@ -99,8 +101,8 @@ impl Request {
         }
     }
 
-    /// Returns the call of the request. Fails with `Inval` if the request means no call, since its priority is 0; else
-    /// with `NoMemory`.
+    /// Returns the call of the request, with copies of the bytes and the buffer. Fails with `Inval` if the
+    /// kind has a priority and the field is 0, or with `NoMemory`.
     pub fn call_as(
         &self,
         kind: CallKind,

@@ -13,7 +13,7 @@ use std::alloc::Global;
 /// A thread of the roster.
 #[repr(C)]
 #[derive(Clone, Copy)]
-pub struct Thread {
+pub struct RosterThread {
     /// Its number, 0 to 255.
     pub thread: u8,
     /// Its process, 0 to 255.
@@ -22,18 +22,19 @@ pub struct Thread {
     pub priority: u8,
 }
 
-fn add(roster: &mut Roster, thread: &Thread) -> Result<(), Errno>
+fn add(roster: &mut Roster, thread: &RosterThread) -> Result<(), Errno>
     ensures { MatchResult result
-        (λ _. (thread_refusal roster.old thread.now ≡ None) × (roster.new ≡ with_member (member_of thread.now) roster.old))
+        (λ _. (thread_refusal roster.old thread.now ≡ None)
+        × (roster.new ≡ with_member (member_of thread.now) roster.old))
         (λ errno. thread_refusal roster.old thread.now ≡ Some errno) }
 {
     let priority = Priority::new(thread.priority).ok_or(Errno::Inval)?;
     roster.add(ThreadNo(thread.thread), ProcessNo(thread.process), priority)
 }
 
-/// Returns the roster of these threads; takes no memory. Fails with `Inval` if a thread has the priority 0 or its
-/// number comes twice, and with `Again` if it is the 65th; the first such thread decides.
-pub fn roster_of(alloc: Global, threads: &[Thread]) -> Result<Roster, Errno>
+/// Returns the roster of these threads, and allocates nothing. Fails for the first thread that can't be
+/// added: with `Inval` if its priority is 0 or its number comes twice, with `Again` if it is the 65th.
+pub fn roster_of(alloc: Global, threads: &[RosterThread]) -> Result<Roster, Errno>
     ensures { result ≡ roster_from [] threads.now }
 {
     let mut roster = Roster::new(alloc);

@@ -1,4 +1,4 @@
-//! An ending in the form that C gets: only numbers.
+//! A completion in the form that C gets: only numbers.
 
 ghost use Rattle.std.specs.Prelude.{◌≡◌, ℕ, length, Some};
 ghost use Rattle.qkernel.specs.Stands.{InfoAtTraces};
@@ -14,7 +14,7 @@ use qkernel::call::{Completion, Info, Mark};
 use qkernel::kernel::Kernel;
 use qqueue::item::What;
 
-/// Returns the facts of the message that was received with this mark.
+/// Returns the data of the message, if this result is the receipt of one.
 fn info_beside(kernel: &Kernel, mark: Mark) -> Option<Info>
     ensures { (rcvid copied : ℕ) → mark ≡ Mark.Message rcvid copied → InfoAtTraces kernel.now rcvid result }
 {
@@ -24,19 +24,19 @@ fn info_beside(kernel: &Kernel, mark: Mark) -> Option<Info>
     }
 }
 
-/// The ending of a call. `mark` says which fields are used; the others are 0.
+/// The completion of a call. `mark` says which fields are used; the others are 0.
 #[repr(C)]
 #[derive(Clone, Copy, Default)]
 pub struct Row {
-    /// The number of the ended call; the first call of a kernel is 1.
+    /// The number of the completed call; the first call of a kernel is 1.
     pub call: u64,
-    /// The thread that made it.
+    /// The thread that made the call.
     pub thread: u8,
-    /// The number of the mark, 1 to 11.
+    /// The number of the result's kind, 1 to 11.
     pub mark: u8,
     /// The error's number, 1 to 11.
     pub errno: u8,
-    /// A priority, 1 to 255; for a message the one with which it was received.
+    /// A priority, 1 to 255; for a message, the priority that it was received with.
     pub priority: u8,
     /// A thread's state, 1 to 4.
     pub state: u8,
@@ -44,7 +44,7 @@ pub struct Row {
     pub what: u8,
     /// A pulse's code.
     pub pulse_code: i8,
-    /// A process; for a message the sender's.
+    /// A process; for a message, the sender's process.
     pub process: u8,
     /// A pulse's value, or an Error's code.
     pub value: i32,
@@ -58,28 +58,28 @@ pub struct Row {
     pub status: i64,
     /// The number of bytes that were copied.
     pub count: usize,
-    /// The bytes of a message.
+    /// The length of a message in bytes.
     pub srcmsglen: usize,
-    /// The bytes of the sender's reply buffer.
+    /// The length of the sender's reply buffer in bytes.
     pub dstmsglen: usize,
-    /// The index in the room for bytes at which the bytes of the buffer begin.
+    /// The index in `bytes` at which the buffer's bytes begin.
     pub start: usize,
-    /// The number of bytes of the buffer that the ending has.
+    /// The number of the buffer's bytes that belong to the completion.
     pub length: usize,
-    /// The number of these bytes that were written; fewer if there wasn't room.
+    /// The number of these bytes that were written: fewer if there wasn't room.
     pub written: usize,
 }
 
 impl Row {
-    /// Returns the row of an ending without its mark. `told_len` bytes of its buffer belong to it; they begin at
-    /// `start` in the room for bytes, and `written` of them were written.
-    fn without_mark(ending: &Completion, start: usize, told_len: usize, written: usize) -> Row
-        requires { told_len ≡ length (told_bytes ending.now) }
-        ensures { IsOf result ending.now start written }
+    /// Returns the row of a completion without its result. `told_len` bytes of its buffer belong to it. They
+    /// begin at `start` in C's array `bytes`, and `written` of them were written.
+    fn without_mark(completion: &Completion, start: usize, told_len: usize, written: usize) -> Row
+        requires { told_len ≡ length (told_bytes completion.now) }
+        ensures { IsOf result completion.now start written }
     {
         Row {
-            call: ending.call,
-            thread: ending.thread.0,
+            call: completion.call,
+            thread: completion.thread.0,
             start,
             length: told_len,
             written,
@@ -89,7 +89,8 @@ impl Row {
 
     fn errno(self, errno: Errno) -> Row
         ensures mark { mark_of result ≡ Some (Mark.Failed errno) }
-        ensures same { (ending : Completion) → (start written : ℕ) → IsOf self ending start written → IsOf result ending start written }
+        ensures same { (completion : Completion) → (start written : ℕ) → IsOf self completion start written
+            → IsOf result completion start written }
     {
         Row {
             mark: 2,
@@ -100,7 +101,8 @@ impl Row {
 
     fn replied(self, status: i64, copied: usize) -> Row
         ensures mark { mark_of result ≡ Some (Mark.Replied status copied) }
-        ensures same { (ending : Completion) → (start written : ℕ) → IsOf self ending start written → IsOf result ending start written }
+        ensures same { (completion : Completion) → (start written : ℕ) → IsOf self completion start written
+            → IsOf result completion start written }
     {
         Row {
             mark: 5,
@@ -112,7 +114,8 @@ impl Row {
 
     fn info(self, info: Info) -> Row
         ensures mark { mark_of result ≡ Some (Mark.Info info) }
-        ensures same { (ending : Completion) → (start written : ℕ) → IsOf self ending start written → IsOf result ending start written }
+        ensures same { (completion : Completion) → (start written : ℕ) → IsOf self completion start written
+            → IsOf result completion start written }
     {
         Row {
             mark: 9,
@@ -129,7 +132,8 @@ impl Row {
 
     fn pulse(self, item: u64, priority: Priority, what: What) -> Row
         ensures mark { mark_of result ≡ Some (Mark.Pulse item priority what) }
-        ensures same { (ending : Completion) → (start written : ℕ) → IsOf self ending start written → IsOf result ending start written }
+        ensures same { (completion : Completion) → (start written : ℕ) → IsOf self completion start written
+            → IsOf result completion start written }
     {
         let row = Row {
             mark: 10,
@@ -160,7 +164,8 @@ impl Row {
 
     fn state(self, state: ThreadState, priority: Priority) -> Row
         ensures mark { mark_of result ≡ Some (Mark.State state priority) }
-        ensures same { (ending : Completion) → (start written : ℕ) → IsOf self ending start written → IsOf result ending start written }
+        ensures same { (completion : Completion) → (start written : ℕ) → IsOf self completion start written
+            → IsOf result completion start written }
     {
         let (number, chid) = match state {
             ThreadState::Ready => (1, 0),
@@ -181,7 +186,8 @@ impl Row {
         ensures mark { mark_of result ≡ Some (Mark.Message rcvid copied) }
         ensures count { result.count ≡ copied }
         ensures info { Fills result info }
-        ensures same { (ending : Completion) → (start written : ℕ) → IsOf self ending start written → IsOf result ending start written }
+        ensures same { (completion : Completion) → (start written : ℕ) → IsOf self completion start written
+            → IsOf result completion start written }
     {
         let row = Row {
             mark: 6,
@@ -205,8 +211,10 @@ impl Row {
 
     fn with_mark(self, mark: Mark, info: Option<Info>) -> Row
         ensures mark { mark_of result ≡ Some mark }
-        ensures message { (rcvid copied : ℕ) → mark ≡ Mark.Message rcvid copied → (result.count ≡ copied) × Fills result info }
-        ensures same { (ending : Completion) → (start written : ℕ) → IsOf self ending start written → IsOf result ending start written }
+        ensures message { (rcvid copied : ℕ) → mark ≡ Mark.Message rcvid copied → (result.count ≡ copied)
+            × Fills result info }
+        ensures same { (completion : Completion) → (start written : ℕ) → IsOf self completion start written
+            → IsOf result completion start written }
     {
         match mark {
             Mark::Ok => Row { mark: 1, ..self },
@@ -243,19 +251,19 @@ impl Row {
         }
     }
 
-    /// Returns the row of an ending of the kernel's last event. `told_len` bytes of its buffer belong to it; they begin
-    /// at `start` in the room for bytes, and `written` of them were written.
+    /// Returns the row of a completion of the kernel's last event. `told_len` bytes of its buffer belong to
+    /// it. They begin at `start` in C's array `bytes`, and `written` of them were written.
     pub fn of(
         kernel: &Kernel,
-        ending: &Completion,
+        completion: &Completion,
         start: usize,
         told_len: usize,
         written: usize,
     ) -> Row
-        requires { told_len ≡ length (told_bytes ending.now) }
-        ensures { Tells result kernel.now ending.now start written }
+        requires { told_len ≡ length (told_bytes completion.now) }
+        ensures { Tells result kernel.now completion.now start written }
     {
-        let info = info_beside(kernel, ending.mark);
-        Row::without_mark(ending, start, told_len, written).with_mark(ending.mark, info)
+        let info = info_beside(kernel, completion.mark);
+        Row::without_mark(completion, start, told_len, written).with_mark(completion.mark, info)
     }
 }

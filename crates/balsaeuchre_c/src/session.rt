@@ -1,42 +1,44 @@
-//! A kernel with the list that takes its endings.
+//! A kernel with the list for the completions of its events.
 
 ghost use Rattle.std.specs.Prelude.{◌≡◌, ◌<◌, ◌^◌, ◌⊎◌, [], true, is_some, IfOk, IfErr};
 ghost use Rattle.qkernel.specs.Kernel.{IsSound};
 ghost use Rattle.qkernel.specs.LentCall.{call_lent};
 ghost use Rattle.qkernel.specs.Stands.{AnswersAtTraces, DispatchError};
-ghost use Rattle.qstate.specs.Kept.{members_of};
-ghost use Rattle.qstate.specs.Threads.{IsSeatIn};
+ghost use Rattle.qkernel_state.specs.Kept.{members_of};
+ghost use Rattle.qkernel_state.specs.Threads.{IsSeatIn};
 ghost use Rattle.qtables.specs.Members.{member_at};
 ghost use Rattle.balsaeuchre_c.specs.Calling.{IsMade};
 ghost use Rattle.balsaeuchre_c.specs.Requests.{IsRefusedAs, call_of};
 
 use crate::kind::kind_of;
-use crate::request::Request;
+use crate::request::CallRequest;
 use qbase::errno::Errno;
 use qbase::ids::ThreadNo;
 use qkernel::call::Call;
-use qkernel::endings::Endings;
+use qkernel::completions::Completions;
 use qkernel::kernel::{CALL_LIMIT, Kernel};
 use qkernel::lent_call::LentCall;
-use qkernel::seat::Seat;
+use qkernel::thread_ref::ThreadRef;
 
-/// A kernel, and the endings of its last event.
+/// A kernel, and the completions of its last event.
 #[derive(Drop)]
 pub struct Session {
     pub kernel: Kernel,
-    pub endings: Endings,
+    pub completions: Completions,
 }
 
 impl Session {
-    /// Empties the list for the next call of a thread, and returns the thread's seat. Fails if the thread is not in the
-    /// roster, or if no more calls can be numbered.
-    fn begin(&mut self, thread: ThreadNo) -> Result<Seat, Errno>
+    /// Empties the list for the next call of a thread, and returns the thread's index. Fails with `NoThread`
+    /// if the thread isn't in the roster, or with `Exhausted` if no more calls can be numbered.
+    fn begin(&mut self, thread: ThreadNo) -> Result<ThreadRef, Errno>
         ensures seat { IfOk result (λ seat. IsSeatIn self.old.kernel.threads seat) }
         ensures thread { IfOk result (λ seat. seat.thread ≡ thread) }
-        ensures known { IfOk result (λ seat. is_some (member_at (members_of self.old.kernel.threads) thread) ≡ true) }
+        ensures known { IfOk result
+            (λ seat. is_some (member_at (members_of self.old.kernel.threads) thread) ≡ true) }
         ensures limit { IfOk result (λ seat. self.old.kernel.made < 2 ^ 40) }
         ensures sound { IfOk result (λ seat. IsSound self.old.kernel) }
-        ensures empty { IfOk result (λ seat. (self.new.kernel ≡ self.old.kernel) × (self.new.endings.items ≡ [])) }
+        ensures empty { IfOk result
+            (λ seat. (self.new.kernel ≡ self.old.kernel) × (self.new.completions.items ≡ [])) }
         ensures error { IfErr result (λ errno. DispatchError self.old.kernel thread errno) }
         ensures unchanged { IfErr result (λ _. self.new ≡ self.old) }
     {
@@ -44,15 +46,17 @@ impl Session {
         if self.kernel.made() >= CALL_LIMIT {
             return Err(Errno::Exhausted);
         }
-        self.endings.clear();
+        self.completions.clear();
         Ok(seat)
     }
 
-    /// Makes a call. `Ok` is an event, whose endings are in the list in rising thread number; on an error nothing is
-    /// called.
+    /// Makes a call. `Ok` is an event: its completions are in the list, by rising thread number. On an error
+    /// no call is made.
     fn call(&mut self, thread: ThreadNo, call: Call) -> Result<(), Errno>
-        ensures event { IfOk result (λ _. AnswersAtTraces self.old.kernel thread call self.new.endings.items self.new.kernel) }
-        ensures known { IfOk result (λ _. is_some (member_at (members_of self.old.kernel.threads) thread) ≡ true) }
+        ensures event { IfOk result
+            (λ _. AnswersAtTraces self.old.kernel thread call self.new.completions.items self.new.kernel) }
+        ensures known { IfOk result
+            (λ _. is_some (member_at (members_of self.old.kernel.threads) thread) ≡ true) }
         ensures sound { IfOk result (λ _. IsSound self.old.kernel) }
         ensures roster { members_of self.new.kernel.threads ≡ members_of self.old.kernel.threads }
         ensures error { IfErr result (λ errno. DispatchError self.old.kernel thread errno) }
@@ -60,30 +64,34 @@ impl Session {
     {
         let seat = self.begin(thread)?;
         self.kernel
-            .call_at(&seat, call, &mut self.endings)
+            .call_at(&seat, call, &mut self.completions)
             .map_err(|refused| refused.0)
     }
 
-    /// Makes a call with bytes that are lent.
+    /// Makes a call whose bytes are borrowed, like `call`.
     fn call_lent(&mut self, thread: ThreadNo, call: &LentCall) -> Result<(), Errno>
-        ensures event { IfOk result (λ _. AnswersAtTraces self.old.kernel thread (call_lent call.now) self.new.endings.items self.new.kernel) }
-        ensures known { IfOk result (λ _. is_some (member_at (members_of self.old.kernel.threads) thread) ≡ true) }
+        ensures event { IfOk result
+            (λ _. AnswersAtTraces self.old.kernel thread
+            (call_lent call.now) self.new.completions.items self.new.kernel) }
+        ensures known { IfOk result
+            (λ _. is_some (member_at (members_of self.old.kernel.threads) thread) ≡ true) }
         ensures sound { IfOk result (λ _. IsSound self.old.kernel) }
         ensures roster { members_of self.new.kernel.threads ≡ members_of self.old.kernel.threads }
         ensures error { IfErr result (λ errno. DispatchError self.old.kernel thread errno) }
         ensures unchanged { IfErr result (λ _. self.new ≡ self.old) }
     {
         let seat = self.begin(thread)?;
-        self.kernel.call_lent_at(&seat, call, &mut self.endings)
+        self.kernel.call_lent_at(&seat, call, &mut self.completions)
     }
 
-    /// Makes the call of a request. A Reply and a Write borrow their bytes; the other kinds get copies of the bytes and
-    /// the buffer that they need. Fails with `Inval` if the request means no call, since its kind or its priority is
-    /// none.
-    pub fn make(&mut self, request: &Request, sent: &[u8], room: &[u8]) -> Result<(), Errno>
+    /// Makes the call of a request. A Reply and a Write borrow their bytes; the other kinds get copies of the
+    /// bytes and the buffer. Fails with `Inval` if no kind has the request's number, or if the kind has a
+    /// priority and the request's is 0.
+    pub fn make(&mut self, request: &CallRequest, sent: &[u8], room: &[u8]) -> Result<(), Errno>
         ensures made { IfOk result (λ _. IsMade self.old request.now sent.now room.now self.new) }
         ensures roster { members_of self.new.kernel.threads ≡ members_of self.old.kernel.threads }
-        ensures error { IfErr result (λ errno. IsRefusedAs (call_of request.now sent.now room.now) errno ⊎ DispatchError self.old.kernel request.now.thread errno) }
+        ensures error { IfErr result (λ errno. IsRefusedAs (call_of request.now sent.now room.now) errno
+            ⊎ DispatchError self.old.kernel request.now.thread errno) }
         ensures unchanged { IfErr result (λ _. self.new ≡ self.old) }
     {
         let Some(kind) = kind_of(request.kind) else {

@@ -1,5 +1,6 @@
 -- Words of bits: one bit of one word changed, and the greatest bit of a word.
-use Rattle.std.proofs.Common.{◌≡◌, ◌≢◌, ℕ, suc, ◌+◌, ◌-◌, ◌*◌, ◌/◌, ◌%◌, ◌^◌, ◌<◌, ◌≤◌, List, length, get_or, ap, ◌∙◌, arith, inl, inr}
+use Rattle.std.proofs.Common.{◌≡◌, ◌≢◌, ℕ, suc, ◌+◌, ◌-◌, ◌*◌, ◌/◌, ◌%◌, ◌^◌, ◌<◌, ◌≤◌, List, length, get_or, ap, ◌∙◌}
+use Rattle.std.proofs.Common.{arith, inl, inr}
 use Rattle.std.proofs.Math.ListN.{set}
 use Rattle.std.proofs.Math.Nat.{pow-suc}
 use Rattle.std.proofs.lemmas.Bool.{cases_eq}
@@ -9,8 +10,12 @@ use Rattle.std.proofs.lemmas.Nat.Bits.{bit_at_above}
 use Rattle.std.specs.Int.{bit_at}
 use Rattle.std.specs.Int.Count.{count_leading_zeros}
 
--- a word is written that differs from the old one at most in the bit of one number: the bits of all other numbers stay
-pub other-kept : (words : List ℕ) (number other word : ℕ) → number / 64 < length words → other ≢ number → (other % 64 ≢ number % 64 → bit_at word (other % 64) ≡ bit_at (get_or words (number / 64) 0) (other % 64)) → bit_at (get_or (set words (number / 64) word) (other / 64) 0) (other % 64) ≡ bit_at (get_or words (other / 64) 0) (other % 64)
+-- writing a word that differs from the old one at most in the bit of one number keeps the bits of all other
+-- numbers
+pub other-kept : (words : List ℕ) (number other word : ℕ) → number / 64 < length words → other ≢ number
+    → (other % 64 ≢ number % 64 → bit_at word (other % 64) ≡ bit_at (get_or words (number / 64) 0) (other % 64))
+    → bit_at (get_or (set words (number / 64) word) (other / 64) 0) (other % 64) ≡ bit_at (get_or words (other / 64) 0)
+    (other % 64)
 other-kept words number other word within different same =
     elim (cases_eq (other / 64) (number / 64)) [
       | inl here ↦
@@ -19,11 +24,12 @@ other-kept words number other word within different same =
       | inr there ↦ rw get_or-set_other
     ]
 
--- the bit of a word that is written
-pub bit-written : (words : List ℕ) (number word : ℕ) → number / 64 < length words → bit_at (get_or (set words (number / 64) word) (number / 64) 0) (number % 64) ≡ bit_at word (number % 64)
+-- after a write the number's bit is the bit of the word that was written
+pub bit-written : (words : List ℕ) (number word : ℕ) → number / 64 < length words
+    → bit_at (get_or (set words (number / 64) word) (number / 64) 0) (number % 64) ≡ bit_at word (number % 64)
 bit-written words number word within = rw get_or-set_same
 
--- a number from a power of two up to the next has that bit
+-- a number from a power of two up to the next has the bit of that power
 top_bit : (word j : ℕ) → 2 ^ j ≤ word → word < 2 ^ suc j → bit_at word j ≡ 1
 top_bit word j low high =
     let rest : ℕ = word - 2 ^ j in
@@ -32,12 +38,13 @@ top_bit word j low high =
     let whole : word / 2 ^ j ≡ 1 = ap (λ n. n / 2 ^ j) parts ∙ div-mul-add 1 (2 ^ j) rest small in
     ap (λ n. n % 2) whole
 
--- the greatest bit of a word that isn't 0, by the zeros above it
+-- this bit of the word is set, and no greater bit is
 pub record IsGreatestBit (word bit : ℕ) : Type 0 where
   pub within : bit < 64
   pub here : bit_at word bit ≡ 1
   pub above : (other : ℕ) → bit < other → bit_at word other ≡ 0
 
+-- the leading zeros of a word that isn't 0 give its greatest bit
 pub greatest-bit : (word : ℕ) → 0 < word → word < 2 ^ 64 → IsGreatestBit word (63 - count_leading_zeros 64 word)
 greatest-bit word some fits =
     let top = leading_top 64 word some fits in

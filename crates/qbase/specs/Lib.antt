@@ -1,4 +1,4 @@
 pub mod ByteSet
 pub mod Errno
-pub mod Laying
+pub mod Copying
 pub mod Priority

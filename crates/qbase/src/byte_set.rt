@@ -3,8 +3,8 @@
 ghost use Rattle.std.specs.Prelude.{◌≡◌, ◌<◌, ℕ};
 ghost use Rattle.std.specs.Int.{bit_at};
 
-/// A set of numbers from 0 to 255, kept as one bit per number. Contracts read it with `has`, which is true of the
-/// numbers in the set.
+/// A set of numbers from 0 to 255, kept as one bit per number. Contracts read it with `has`, which is true
+/// for the numbers in the set.
 #[derive(Clone, Copy, Debug)]
 pub struct ByteSet {
     words: [u64; 4],
@@ -31,7 +31,7 @@ impl ByteSet {
         ByteSet { words: [0; 4] }
     }
 
-    /// Adds a number; nothing changes if it is in the set already.
+    /// Adds a number; nothing changes if the number is in the set already.
     pub fn insert(&mut self, number: u8)
         ensures inserted { has self.new number ≡ true }
         ensures others { (other : ℕ) → other ≢ number → has self.new other ≡ has self.old other }
@@ -39,7 +39,7 @@ impl ByteSet {
         self.words[number as usize / 64] |= 1 << (number % 64);
     }
 
-    /// Removes a number; nothing changes if it isn't in the set.
+    /// Removes a number; nothing changes if the number isn't in the set.
     pub fn remove(&mut self, number: u8)
         ensures removed { has self.new number ≡ false }
         ensures others { (other : ℕ) → other ≢ number → has self.new other ≡ has self.old other }
@@ -54,7 +54,8 @@ impl ByteSet {
         self.words[number as usize / 64] >> (number % 64) & 1 == 1
     }
 
-    /// Returns the greatest number in the set, or `None` if the set is empty. Looks at four words, not at each number.
+    /// Returns the greatest number in the set, or `None` if the set is empty. It reads four words, not each
+    /// number.
     pub fn greatest(&self) -> Option<u8>
         ensures some { IfSome result (λ number. IsGreatest self.now number) }
         ensures none { IfNone result (HasNone self.now) }

@@ -1,14 +1,14 @@
 //! Bytes on the heap.
 
 ghost use Rattle.std.specs.Prelude.{◌≡◌, ℕ, List, [], IfOk, length, drop, replicate, ◌==◌};
-ghost use Rattle.qbase.specs.Laying.{lay_over, laid_count};
+ghost use Rattle.qbase.specs.Copying.{lay_over, laid_count};
 
-use crate::laying::{lay, take};
+use crate::copying::{lay, take};
 use std::alloc::{AllocError, Global};
 use std::marker::Model;
 
-/// A message, a buffer or the data of a reply. Contracts see the list of the bytes, but neither their address nor the
-/// capacity.
+/// A message, a buffer or the data of a reply. Contracts see the list of the bytes, but neither their address
+/// nor the capacity.
 #[derive(Debug, Drop)]
 pub struct Bytes {
     items: Vec<u8>,
@@ -39,7 +39,7 @@ impl Bytes {
     }
 
     /// Makes a `Bytes` with a copy of `bytes`; error if the allocator refuses.
-    /// `first_message.rt` of `crates/balsaeuchre_uses` makes its messages and buffers with it.
+    /// `first_message.rt` of `crates/balsaeuchre_examples` makes its messages and buffers with it.
     pub fn copied(alloc: Global, bytes: &[u8]) -> Result<Bytes, AllocError>
         ensures { IfOk result (λ copy. copy ≡ bytes.now) }
     {
@@ -48,7 +48,8 @@ impl Bytes {
         })
     }
 
-    /// Makes a `Bytes` with `len` copies of one byte, such as a buffer of zeros; error if the allocator refuses.
+    /// Makes a `Bytes` with `len` copies of one byte, such as a buffer of zeros; error if the allocator
+    /// refuses.
     pub fn filled(alloc: Global, byte: u8, len: usize) -> Result<Bytes, AllocError>
         ensures { IfOk result (λ bytes. bytes ≡ replicate len byte) }
     {
@@ -86,8 +87,8 @@ impl Bytes {
         self.items.is_empty()
     }
 
-    /// Copies `bytes` over these bytes from index `at` on, and returns how many it copied: as many as fit before the
-    /// end, and 0 if `at` is at or past the end. The length stays as it is.
+    /// Copies `bytes` over these bytes from index `at` on, until either ends. Returns how many bytes it
+    /// copied; that is 0 if `at` is at or past the end. The length doesn't change.
     pub fn lay(&mut self, at: usize, bytes: &[u8]) -> usize
         ensures after { self.new ≡ lay_over self.old at bytes.now }
         ensures count { result ≡ laid_count self.old at bytes.now }
@@ -95,8 +96,8 @@ impl Bytes {
         lay(&mut self.items, at, bytes)
     }
 
-    /// Copies `source` from index `at` on over the front of these bytes, and returns how many it copied: as many as fit
-    /// before the end, and 0 if `at` is at or past the end of `source`. The length stays as it is.
+    /// Copies `source`, from index `at` on, over the front of these bytes, until either ends. Returns how
+    /// many bytes it copied; that is 0 if `at` is at or past the end of `source`. The length doesn't change.
     pub fn take(&mut self, source: &[u8], at: usize) -> usize
         ensures after { self.new ≡ lay_over self.old 0 (drop at source.now) }
         ensures count { result ≡ laid_count self.old 0 (drop at source.now) }

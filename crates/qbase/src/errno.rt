@@ -1,20 +1,22 @@
-//! The errors of calls that are refused, or ended by force.
+//! The errors of calls that fail, are cancelled or are refused.
 
 ghost use Rattle.std.specs.Prelude.{◌≡◌};
 ghost use Rattle.qbase.specs.Errno.{word_of};
 
 use std::alloc::{AllocError, AllocFailed};
 
-/// An error of a call. The first six have the names of POSIX errors without the `E`. The kernel's own profile sets
-/// which error is returned in which case.
+/// An error of a call. The first six have the names of POSIX errors without the `E`. Which error a call fails
+/// with is this kernel's own choice; `docs/MODEL.md` lists the cases.
 #[derive(Clone, Copy, Debug, PartialEq, Eq)]
 pub enum Errno {
-    /// There is no such thread, channel or held message, or the call was ended because its channel was destroyed or the
-    /// kernel shut down.
+    /// There is no such thread, channel or held message. Or the call was cancelled: its channel was
+    /// destroyed, or the kernel was shut down.
     Srch,
-    /// There is no such connection, or its channel was destroyed.
+    /// There is no such connection, or its channel was destroyed. Or the Send was cancelled: its connection
+    /// was detached.
     Badf,
-    /// An argument is out of range.
+    /// An argument is out of range, or the caller's process has no such channel to destroy, or no such
+    /// connection to detach.
     Inval,
     /// A limit is reached.
     Again,
@@ -26,15 +28,16 @@ pub enum Errno {
     NoMemory,
     /// The kernel is shut down.
     Down,
-    /// The kernel has made all the calls that it can number.
+    /// The kernel has made all the calls that it can number, 2^40.
     Exhausted,
-    /// The kept trace is full.
+    /// The history that the kernel keeps is full.
     TraceFull,
     /// The thread isn't in the roster.
     NoThread,
 }
 
-/// All errors, in the order in which the library for C numbers them from 1 on. Calls fail with the first eight.
+/// All errors, in the order in which the library for C numbers them from 1 on. Completions have only the
+/// first eight.
 pub const ERRNOS: [Errno; 11] = [
     Errno::Srch,
     Errno::Badf,

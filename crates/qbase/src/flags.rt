@@ -39,7 +39,7 @@ impl Flags for ChannelFlags {
 }
 
 impl ChannelFlags {
-    /// Makes flags of these bits; any bits are allowed.
+    /// Makes flags from these bits; any bits are allowed.
     /// `ChannelFlags::of(0)` has no flag.
     pub fn of(bits: u8) -> ChannelFlags
         ensures { result.0 ≡ bits }
@@ -47,31 +47,31 @@ impl ChannelFlags {
         Self(bits)
     }
 
-    /// Returns whether no other bits are set than those of the three flags.
+    /// Returns whether each set bit is the bit of one of the three flags.
     pub fn is_known(self) -> bool
         ensures { result ≡ nat_lt self.0 8 }
     {
         self.0 < 8
     }
 
-    /// Returns whether `FIXED_PRIORITY` is set: then the priority of a thread doesn't change when it receives from the
-    /// channel.
+    /// Returns whether `FIXED_PRIORITY` is set: then the priority of a thread doesn't change when it receives
+    /// from the channel.
     pub fn fixes_priority(self) -> bool
         ensures { result ≡ (bit_and self.0 1 == 1) }
     {
         self.contains(ChannelFlags::FIXED_PRIORITY)
     }
 
-    /// Returns whether `UNBLOCK` is set: then the server gets a pulse if a client is to be unblocked while the server
-    /// holds its message.
+    /// Returns whether `UNBLOCK` is set: then the server gets a pulse if a client is to be unblocked while
+    /// the server holds its message.
     pub fn tells_unblock(self) -> bool
         ensures { result ≡ (bit_and self.0 2 == 2) }
     {
         self.contains(ChannelFlags::UNBLOCK)
     }
 
-    /// Returns whether `DISCONNECT` is set: then the server gets a pulse when a process detaches its last connection to
-    /// the channel.
+    /// Returns whether `DISCONNECT` is set: then the server gets a pulse when a process detaches its last
+    /// connection to the channel.
     pub fn tells_disconnect(self) -> bool
         ensures { result ≡ (bit_and self.0 4 == 4) }
     {

@@ -1,12 +1,12 @@
-//! The numbers that stand for a thread, a process, a channel, a connection or a message in a call. Contracts see each
-//! of them as a plain number.
+//! The numbers by which a call names a thread, a process, a channel, a connection or a message. Contracts see
+//! each as a plain number.
 
 ghost use Rattle.std.specs.Prelude.{ℕ};
 
 use std::marker::Model;
 
-/// The number of a thread, 0 to 255; a roster has at most 64 threads. `first_message.rt` of `crates/balsaeuchre_uses`
-/// uses two.
+/// The number of a thread, 0 to 255; a roster has at most 64 threads.
+/// `first_message.rt` of `crates/balsaeuchre_examples` uses two.
 #[derive(Clone, Copy, Debug, PartialEq, Eq)]
 pub struct ThreadNo(pub u8);
 
@@ -18,8 +18,8 @@ impl Model for ThreadNo {
     ghost inverse = { λ n. record { 0 = n } };
 }
 
-/// The number of a process, 0 to 255. Threads of one process share its channels and connections, as the client and its
-/// fellow do in `timeout.rt` of `crates/balsaeuchre_uses`.
+/// The number of a process, 0 to 255. Threads of one process share its channels and connections, as the
+/// client and its fellow do in `timeout.rt` of `crates/balsaeuchre_examples`.
 #[derive(Clone, Copy, Debug, PartialEq, Eq)]
 pub struct ProcessNo(pub u8);
 
@@ -31,8 +31,9 @@ impl Model for ProcessNo {
     ghost inverse = { λ n. record { 0 = n } };
 }
 
-/// A channel's id: the number of the call that created it. It is never used again for another channel (own profile).
-/// The mark of a `ChannelCreate` carries it.
+/// A channel's id: the number of the call that created it. The id is never used again for another channel, by
+/// this kernel's own choice.
+/// The result of a `ChannelCreate` has it.
 #[derive(Clone, Copy, Debug, PartialEq, Eq)]
 pub struct ChannelId(pub u64);
 
@@ -44,8 +45,9 @@ impl Model for ChannelId {
     ghost inverse = { λ n. record { 0 = n } };
 }
 
-/// A connection's id: the number of the call that attached it. It is never used again for another connection (own
-/// profile). The mark of a `ConnectAttach` carries it.
+/// A connection's id: the number of the call that attached it. The id is never used again for another
+/// connection, by this kernel's own choice.
+/// The result of a `ConnectAttach` has it.
 #[derive(Clone, Copy, Debug, PartialEq, Eq)]
 pub struct ConnectionId(pub u64);
 
@@ -57,8 +59,9 @@ impl Model for ConnectionId {
     ghost inverse = { λ n. record { 0 = n } };
 }
 
-/// The receive id of a message: the number of the call that sent it (own profile; `MsgReceive`'s rcvid). The mark of a
-/// `Receive` that got a message carries it.
+/// The receive id of a message (QNX's rcvid): the number of the call that sent it, by this kernel's own
+/// choice.
+/// The result of a `Receive` that got a message has it.
 #[derive(Clone, Copy, Debug, PartialEq, Eq)]
 pub struct ReceiveId(pub u64);
 

@@ -5,7 +5,8 @@ ghost use Rattle.qbase.specs.Priority.{priority_of};
 
 use std::marker::Model;
 
-/// A priority from 1 to 255; a greater one is more urgent. The idle thread's 0 isn't allowed. Contracts see the number.
+/// A priority from 1 to 255; a greater one is more urgent. The idle thread's 0 isn't allowed. Contracts see
+/// the number.
 #[derive(Clone, Copy, Debug, PartialEq, Eq)]
 pub struct Priority {
     level: u8,
@@ -22,8 +23,8 @@ impl Model for Priority {
 }
 
 impl Priority {
-    /// Makes a priority of a number; `None` if it is 0.
-    /// `carried.rt` of `crates/balsaeuchre_uses` makes three.
+    /// Makes a priority from a number; `None` if the number is 0.
+    /// `carried.rt` of `crates/balsaeuchre_examples` makes three.
     pub fn new(level: u8) -> Option<Priority>
         ensures { result ≡ priority_of level }
     {

@@ -2,7 +2,8 @@
 
 use crate::ids::ChannelId;
 
-/// A thread's state, named as in the QNX Neutrino System Architecture, with the channel on which it is blocked.
+/// A thread's state, named as in the QNX Neutrino System Architecture, with the channel on which it is
+/// blocked.
 #[derive(Clone, Copy, Debug, PartialEq, Eq)]
 pub enum ThreadState {
     /// The thread isn't blocked in the kernel.
@@ -11,6 +12,6 @@ pub enum ThreadState {
     SendBlocked(ChannelId),
     /// The thread waits for a message or a pulse.
     ReceiveBlocked(ChannelId),
-    /// The thread's message was received and isn't answered.
+    /// The thread's message was received and has no reply yet.
     ReplyBlocked(ChannelId),
 }

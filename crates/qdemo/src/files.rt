@@ -1,12 +1,13 @@
 //! Writes the two files of a recording.
 
-use qserve::fault::ServeFault;
-use qserve::recording::{Recording, Store};
-use qtool::ending::tell_unread;
+use qdemo_serve::fault::ServeFault;
+use qdemo_serve::recording::{Recording, RecordStore};
+use qdemo_commands::completion::tell_unread;
 use std::rt::Files;
 use std::{fs, io};
 
-/// Stores a recording in the files NAME.txt and NAME.trace, which it overwrites, and reports which can't be written.
+/// Stores a recording in the files NAME.txt and NAME.trace, which it overwrites. Reports the first file that
+/// can't be written.
 #[derive(Drop)]
 pub struct RecordFiles<'a, R> {
     pub rt: &'a R,
@@ -29,7 +30,7 @@ impl<'a, R: Files + Eprint + AllocGlobal> RecordFiles<'a, R> {
     }
 }
 
-impl<'a, R: Files + Eprint + AllocGlobal> Store for RecordFiles<'a, R> {
+impl<'a, R: Files + Eprint + AllocGlobal> RecordStore for RecordFiles<'a, R> {
     fn store(&mut self, recording: &Recording) -> Result<(), ServeFault> {
         self.put("txt", recording.script.as_str())?;
         self.put("trace", recording.trace.as_str())

@@ -1,4 +1,5 @@
-//! A kernel of synchronous messages, run from a script, or by a server and its clients on threads.
+//! The program `qdemo`: it runs, checks, plays and draws scripts on the kernel, explores designs, and runs a
+//! server and its clients on threads.
 #![tactic(auto)]
 
 mod files;
@@ -6,14 +7,14 @@ mod serving;
 
 use clap::Error;
 use clap::error::ErrorKind;
-use qtool::charts::run_chart;
-use qtool::check::run_check;
-use qtool::colours::{Colours, Screen};
-use qtool::command::{Action, action_of};
-use qtool::designs::run_explore;
-use qtool::ending::{end_failed, end_unwritten, end_with};
-use qtool::play::run_play;
-use qtool::scripts::run_script;
+use qdemo_commands::charts::run_chart;
+use qdemo_commands::check::run_check;
+use qdemo_commands::colours::{Colours, Screen};
+use qdemo_commands::command::{Action, action_of};
+use qdemo_commands::designs::run_explore;
+use qdemo_commands::completion::{end_failed, end_unwritten, end_with};
+use qdemo_commands::play::run_play;
+use qdemo_commands::scripts::run_script;
 use serving::run_serve;
 use std::env::VarError;
 use std::io::IsTerminal;
@@ -46,16 +47,16 @@ fn main(rt: HostRuntime) -> ExitCode {
     }
 }
 
-/// Returns which outputs are terminals: these have colours, unless `NO_COLOR` is set.
+/// Returns which outputs are terminals. These have colours, unless `NO_COLOR` is set and not empty.
 fn screen(rt: &HostRuntime) -> Screen {
     let (output, errors) = (rt.stdout().is_terminal(), rt.stderr().is_terminal());
-    let are_wanted = match env::var(rt, "NO_COLOR") {
+    let are_expected = match env::var(rt, "NO_COLOR") {
         Ok(value) => value.is_empty(),
         Err(error) => error == VarError::NotPresent,
     };
     let colours = Colours {
-        output: are_wanted && output,
-        errors: are_wanted && errors,
+        output: are_expected && output,
+        errors: are_expected && errors,
     };
     Screen {
         output,
@@ -64,8 +65,8 @@ fn screen(rt: &HostRuntime) -> Screen {
     }
 }
 
-/// Ends a program whose arguments ask for no action: prints the help text that they ask for, or what is wrong with
-/// them. A faulty command line has its status even if its text can't be written.
+/// Ends a program whose arguments ask for no action. Prints the help text that they ask for, or their fault.
+/// A faulty command line has its own exit status even if the text can't be written.
 fn end_without_action<R: Print + Eprint>(rt: &R, error: &Error) -> ExitCode {
     if error.kind() == ErrorKind::OutOfMemory {
         return end_failed(rt, "out of memory");

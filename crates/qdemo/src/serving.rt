@@ -1,17 +1,17 @@
-//! Runs a server and its clients.
+//! The action `serve`: runs a server and its clients.
 
-ghost use Rattle.qserve.specs.Fit.{Fit};
+ghost use Rattle.qdemo_serve.specs.Fit.{Fit};
 
 use crate::files::RecordFiles;
 use qscript::watched::Watched;
-use qserve::fault::ServeFault;
-use qserve::recording::{Forget, Store};
-use qserve::serve::serve;
-use qserve::settings::Settings;
-use qtool::command::ServeRun;
-use qtool::ending::{end_failed, end_quietly, end_unwritten, end_with};
-use qtool::streams::Outlet;
-use qtool::summary::{json_of, with_units};
+use qdemo_serve::fault::ServeFault;
+use qdemo_serve::recording::{Forget, RecordStore};
+use qdemo_serve::serve::serve;
+use qdemo_serve::settings::Settings;
+use qdemo_commands::command::ServeRun;
+use qdemo_commands::completion::{end_failed, end_quietly, end_unwritten, end_with};
+use qdemo_commands::streams::Outlet;
+use qdemo_commands::summary::{json_of, with_units};
 use std::alloc::AllocError;
 use std::process::ExitCode;
 use std::rt::{Clock, Files};
@@ -19,7 +19,8 @@ use std::sync::Wait;
 use std::thread::Threads;
 use std::{io, str};
 
-/// Runs a server and its clients, and records the calls if the recording has a name. Shows progress on a terminal.
+/// Runs a server and its clients, and records the calls if the recording has a name. Shows progress on a
+/// terminal, unless `quiet` is set.
 pub fn run_serve<R: Files + Print + Eprint + AllocGlobal + Threads + Wait + Clock + Sync>(
     rt: &R,
     run: ServeRun,
@@ -37,7 +38,7 @@ pub fn run_serve<R: Files + Print + Eprint + AllocGlobal + Threads + Wait + Cloc
         progress: terminal && !run.quiet,
         record: run.record.is_some(),
     };
-    // The command line allows only settings that fit.
+    // The command line allows only numbers in their ranges.
     if !settings.fit() {
         return end_with(rt, "worker failed", 3);
     }
@@ -50,8 +51,9 @@ pub fn run_serve<R: Files + Print + Eprint + AllocGlobal + Threads + Wait + Cloc
     serve_with(rt, settings, json, &mut files)
 }
 
-/// Runs a server and its clients, stores their recording, and prints the results in the wanted form.
-fn serve_with<R: Print + Eprint + AllocGlobal + Threads + Wait + Clock + Sync, S: Store>(
+/// Runs a server and its clients, stores their recording, and prints the results as lines, with units or as
+/// JSON.
+fn serve_with<R: Print + Eprint + AllocGlobal + Threads + Wait + Clock + Sync, S: RecordStore>(
     rt: &R,
     settings: Settings,
     json: bool,
@@ -70,7 +72,7 @@ fn serve_with<R: Print + Eprint + AllocGlobal + Threads + Wait + Clock + Sync, S
     }
 }
 
-/// Ends a run that failed. A recording that can't be stored is reported already.
+/// Ends a run that failed. A recording that couldn't be stored was reported before.
 fn end_served(rt: &impl Eprint, fault: ServeFault) -> ExitCode {
     match fault {
         ServeFault::Record => ExitCode::from(fault.status()),
@@ -79,7 +81,7 @@ fn end_served(rt: &impl Eprint, fault: ServeFault) -> ExitCode {
 }
 
 /// Runs a server and its clients, stores their recording, and prints the results with units, or as JSON.
-fn serve_in_words<R: Print + Eprint + AllocGlobal + Threads + Wait + Clock + Sync, S: Store>(
+fn serve_in_words<R: Print + Eprint + AllocGlobal + Threads + Wait + Clock + Sync, S: RecordStore>(
     rt: &R,
     settings: Settings,
     json: bool,

@@ -1,67 +1,129 @@
 -- Each step is allowed.
-use Rattle.qhandoff.proofs.Common.{◌≡◌, ◌≢◌, ℕ, zero, suc, ◌+◌, ◌<◌, ◌≤◌, eqb, Bool, true, false, List, [], ◌∷◌, ◌++◌, length, replicate, map, get_or, set, sym, refl, ap, ◌∙◌, subst, ⊎_elim, ◌⊎◌, inl, inr, arith, Option, Some, None, length-set, length-append, get_or-set_other, get_or-set_same, dite, none, some, ℕ_discrete, get_elem?, Me, Act, keeps, takes, gives, Valid, stepped, step, carried_after, Allows, set_here, set_else, set_again, exchanged, Line, Desk, Hand, View, Kernel, Thread, KeepsRule, Fits, line, word_of, OpenTells, CancelTells, BeginPutTells, EndPutTells, TakeTells, GiveBackTells, IsBusy, opened_desk, cancelled_desk, putting_desk, put_desk}
+use Rattle.qhandoff.proofs.Common.{◌≡◌, ◌≢◌, ℕ, zero, suc, ◌+◌, ◌<◌, ◌≤◌, eqb, Bool, true, false, List, [], ◌∷◌, ◌++◌}
+use Rattle.qhandoff.proofs.Common.{length, replicate, map, get_or, set, sym, refl, ap, ◌∙◌, subst, ⊎_elim, ◌⊎◌, inl}
+use Rattle.qhandoff.proofs.Common.{inr, arith, Option, Some, None, length-set, length-append, get_or-set_other}
+use Rattle.qhandoff.proofs.Common.{get_or-set_same, dite, none, some, ℕ_discrete, get_elem?, Me, Act, keeps, takes}
+use Rattle.qhandoff.proofs.Common.{gives, Valid, stepped, step, carried_after, Allows, set_here, set_else, set_again}
+use Rattle.qhandoff.proofs.Common.{exchanged, CellView, KernelView, ThreadView, View, Kernel, Thread, KeepsRule, Fits}
+use Rattle.qhandoff.proofs.Common.{line, word_of, OpenTells, CancelTells, BeginPutTells, EndPutTells, TakeTells}
+use Rattle.qhandoff.proofs.Common.{GiveBackTells, IsBusy, opened_kernel_view, cancelled_kernel_view}
+use Rattle.qhandoff.proofs.Common.{putting_kernel_view, put_kernel_view}
 use Rattle.std.proofs.lemmas.List.{set-get_or}
 use prog.Atomic.{either}
-use Rattle.qhandoff.proofs.Changes.{St, cell_of_word, kernel_changes, kernel_sees, thread_changes, thread_sees, fits_open, fits_idle, fits_busy, fits_cancel, fits_begin, fits_end, fits_take, fits_give}
+use Rattle.qhandoff.proofs.Changes.{St, cell_of_word, kernel_changes, kernel_sees, thread_changes, thread_sees}
+use Rattle.qhandoff.proofs.Changes.{fits_open, fits_idle, fits_busy, fits_cancel, fits_begin, fits_end, fits_take}
+use Rattle.qhandoff.proofs.Changes.{fits_give}
 
 abbrev pub Sat : Type 0 → Type 0
 Sat T = Me (Option T) (View T)
 
 module _ {T : Type 0} where
-  same : (n id i : ℕ) (s : St T) (v : View T) → KeepsRule n s → get_elem? s.views id ≡ some v → KeepsRule n record { words = set s.words i (get_or s.words i 0); homes = s.homes; views = set s.views id v }
-  same n id i s v k at = subst (λ (z : List ℕ × List (View T)). KeepsRule n record { words = z.0; homes = s.homes; views = z.1 }) (λ j. (sym (set-get_or s.words i 0) j, sym (set_again s.views id v at) j)) k
+  same : (n id i : ℕ) (s : St T) (v : View T) → KeepsRule n s → get_elem? s.views id ≡ some v
+      → KeepsRule n record { words = set s.words i (get_or s.words i 0); homes = s.homes; views = set s.views id v }
+  same n id i s v k at =
+      subst (λ (z : List ℕ × List (View T)). KeepsRule n record { words = z.0; homes = s.homes; views = z.1 })
+      (λ j. (sym (set-get_or s.words i 0) j, sym (set_again s.views id v at) j)) k
 
   -- the end of a step that found n
   abbrev Ends : ℕ → ℕ → ℕ → List (ℕ × Option T) → St T → (ℕ → Sat T → Type 0) → ℕ → ℕ → Type 0
-  Ends n id i c s then m z = (w : View T) × (a : Act (Option T)) × Valid s.homes c a × KeepsRule n (stepped s i z id c w a) × then m (w, carried_after c a)
+  Ends n id i c s then m z = (w : View T) × (a : Act (Option T)) × Valid s.homes c a
+      × KeepsRule n (stepped s i z id c w a) × then m (w, carried_after c a)
 
-  opens_here : (n id t : ℕ) (d : Desk T) → t < n → Allows (KeepsRule n) n id (Kernel d, []) (word_of t) (λ m. either (eqb m 0) 1 m) (OpenTells (step n (word_of t) 0 1 none) (Kernel d, []))
-  opens_here n id t d h s k long at small = let back = sym (cell_of_word t) in let m : ℕ = get_or s.words (word_of t) 0 in let l = line d t in let fit = kernel_sees n id t s k d at h in
+  opens_here : (n id t : ℕ) (d : KernelView T) → t < n
+      → Allows (KeepsRule n) n id (Kernel d, []) (word_of t) (λ m. either (eqb m 0) 1 m)
+      (OpenTells (step n (word_of t) 0 1 none) (Kernel d, []))
+  opens_here n id t d h s k long at small = let back = sym (cell_of_word t) in
+      let m : ℕ = get_or s.words (word_of t) 0 in let l = line d t in let fit = kernel_sees n id t s k d at h in
       exchanged m 0 1 (Ends n id (word_of t) [] s (OpenTells (step n (word_of t) 0 1 none) (Kernel d, [])) m)
-      (λ e. (Kernel (opened_desk d t), keeps, tt, kernel_changes n id t s k d at h 1 (record l { opened = true }) s.homes k.slots (λ u ne. refl) refl (fits_open m l (k.hand t) _ fit e), ((λ z. (ap (λ u. (Kernel (opened_desk d u), [])) back, ap (λ u. (line d u).opened) (sym back) ∙ fits_idle m l (k.hand t) _ fit e)), (λ ne. absurd (ne e)))))
-      (λ ne. (Kernel d, keeps, tt, same n id (word_of t) s (Kernel d) k at, ((λ z. absurd (ne z)), (λ z. (refl, subst (λ u. IsBusy (line d u)) back (fits_busy m l (k.hand t) _ fit ne))))))
+      (λ e. (
+        Kernel (opened_kernel_view d t),
+        keeps,
+        tt,
+        kernel_changes n id t s k d at h 1 (record l { opened = true }) s.homes k.slots (λ u ne. refl) refl
+            (fits_open m l (k.hand t) _ fit e),
+        (
+          (λ z. (
+            ap (λ u. (Kernel (opened_kernel_view d u), [])) back,
+            ap (λ u. (line d u).opened) (sym back)
+                ∙ fits_idle m l (k.hand t) _ fit e,
+          )),
+          (λ ne. absurd (ne e)),
+        ),
+      ))
+      (λ ne. (
+        Kernel d,
+        keeps,
+        tt,
+        same n id (word_of t) s (Kernel d) k at,
+        ((λ z. absurd (ne z)), (λ z. (refl, subst (λ u. IsBusy (line d u)) back (fits_busy m l (k.hand t) _ fit ne)))),
+      ))
 
-  cancels_here : (n id t : ℕ) (d : Desk T) → t < n → (line d t).opened ≡ true → (line d t).putting ≡ false → Allows (KeepsRule n) n id (Kernel d, []) (word_of t) (λ _. 0) (λ _. CancelTells (step n (word_of t) 0 0 none) (Kernel d, []) 0)
-  cancels_here n id t d h a b s k long at small = let l = line d t in let fit = kernel_sees n id t s k d at h in
-      (Kernel (cancelled_desk d t), keeps, tt, kernel_changes n id t s k d at h 0 (record l { opened = false }) s.homes k.slots (λ u ne. refl) refl (fits_cancel _ l (k.hand t) _ fit a b), ap (λ u. (Kernel (cancelled_desk d u), [])) (sym (cell_of_word t)))
-
-  begins_here : (n id t : ℕ) (d : Desk T) → t < n → (line d t).opened ≡ true → (line d t).putting ≡ false → Allows (KeepsRule n) n id (Kernel d, []) (word_of t) (λ m. m) (BeginPutTells (step n (word_of t) 0 0 none) (Kernel d, []))
-  begins_here n id t d h a b s k long at small = let m : ℕ = get_or s.words (word_of t) 0 in let l = line d t in let fit = kernel_sees n id t s k d at h in let r = fits_begin m l (k.hand t) _ fit a b in (
-    Kernel (putting_desk d t),
-    takes t None,
-    r.0,
-    kernel_changes n id t s k d at h m (record l { putting = true }) (set s.homes t none) (length-set s.homes t none ∙ k.slots) (λ u ne. set_else s.homes t u none ne) refl
-        (subst (Fits m (record l { putting = true }) (k.hand t)) (sym (set_here s.homes t none (omega (arith, k.slots)))) r.1),
-    ap (λ u. (Kernel (putting_desk d u), (u, None) ∷ [])) (sym (cell_of_word t)),
+  cancels_here : (n id t : ℕ) (d : KernelView T) → t < n → (line d t).opened ≡ true → (line d t).putting ≡ false
+      → Allows (KeepsRule n) n id (Kernel d, []) (word_of t) (λ _. 0)
+      (λ _. CancelTells (step n (word_of t) 0 0 none) (Kernel d, []) 0)
+  cancels_here n id t d h a b s k long at small = let l = line d t in let fit = kernel_sees n id t s k d at h in (
+    Kernel (cancelled_kernel_view d t),
+    keeps,
+    tt,
+    kernel_changes n id t s k d at h 0
+        (record l { opened = false }) s.homes k.slots (λ u ne. refl) refl (fits_cancel _ l (k.hand t) _ fit a b),
+    ap (λ u. (Kernel (cancelled_kernel_view d u), [])) (sym (cell_of_word t)),
   )
+
+  begins_here : (n id t : ℕ) (d : KernelView T) → t < n → (line d t).opened ≡ true → (line d t).putting ≡ false
+      → Allows (KeepsRule n) n id (Kernel d, []) (word_of t) (λ m. m)
+      (BeginPutTells (step n (word_of t) 0 0 none) (Kernel d, []))
+  begins_here n id t d h a b s k long at small = let m : ℕ = get_or s.words (word_of t) 0 in let l = line d t in
+      let fit = kernel_sees n id t s k d at h in let r = fits_begin m l (k.hand t) _ fit a b in (
+        Kernel (putting_kernel_view d t),
+        takes t None,
+        r.0,
+        kernel_changes n id t s k d at h m (record l { putting = true }) (set s.homes t none)
+            (length-set s.homes t none ∙ k.slots) (λ u ne. set_else s.homes t u none ne) refl
+            (subst (Fits m (record l { putting = true }) (k.hand t))
+            (sym (set_here s.homes t none (omega (arith, k.slots)))) r.1),
+        ap (λ u. (Kernel (putting_kernel_view d u), (u, None) ∷ [])) (sym (cell_of_word t)),
+      )
 
   held : T → List (ℕ × Option T) → T
   held d [] = d
   held d ((k, None) ∷ c) = d
   held d ((k, Some x) ∷ c) = x
 
-  one : (t u : ℕ) (x y : T) → Rattle.std.proofs.Common.◌≡◌ {A = List (ℕ × Option T)} ((t, Some x) ∷ []) ((u, Some y) ∷ []) → x ≡ y
+  one : (t u : ℕ) (x y : T)
+      → Rattle.std.proofs.Common.◌≡◌ {A = List (ℕ × Option T)} ((t, Some x) ∷ []) ((u, Some y) ∷ []) → x ≡ y
   unfolding held
   one t u x y e = ap (held x) e
 
-  ends_here : (n id t : ℕ) (d : Desk T) (x : T) → t < n → (line d t).putting ≡ true → Allows (KeepsRule n) n id (Kernel d, (t, Some x) ∷ []) (word_of t) (λ _. 2) (λ _. EndPutTells (step n (word_of t) 2 0 none) (Kernel d, (t, Some x) ∷ []) 2)
-  ends_here n id t d x h a s k long at small = let l = line d t in let fit = kernel_sees n id t s k d at h in let l' : Line T = record l { opened = false; putting = false; put = l.put ++ x ∷ [] } in (
-    Kernel (put_desk d t x),
-    gives,
-    tt,
-    kernel_changes n id t s k d at h 2 l' (set s.homes t (some (Some x))) (length-set s.homes t (some (Some x)) ∙ k.slots) (λ u ne. set_else s.homes t u (some (Some x)) ne) refl
-        (subst (Fits 2 l' (k.hand t)) (sym (set_here s.homes t (some (Some x)) (omega (arith, k.slots)))) (fits_end _ l (k.hand t) _ x fit a)),
-    (λ y e. ap (λ z. (Kernel (put_desk d t z), [])) (one t _ x y e) ∙ ap (λ u. (Kernel (put_desk d u y), [])) (sym (cell_of_word t))),
-  )
+  ends_here : (n id t : ℕ) (d : KernelView T) (x : T) → t < n → (line d t).putting ≡ true
+      → Allows (KeepsRule n) n id (Kernel d, (t, Some x) ∷ []) (word_of t) (λ _. 2)
+      (λ _. EndPutTells (step n (word_of t) 2 0 none) (Kernel d, (t, Some x) ∷ []) 2)
+  ends_here n id t d x h a s k long at small = let l = line d t in let fit = kernel_sees n id t s k d at h in
+      let l' : CellView T = record l { opened = false; putting = false; put = l.put ++ x ∷ [] } in (
+        Kernel (put_kernel_view d t x),
+        gives,
+        tt,
+        kernel_changes n id t s k d at h 2 l' (set s.homes t (some (Some x)))
+            (length-set s.homes t (some (Some x)) ∙ k.slots) (λ u ne. set_else s.homes t u (some (Some x)) ne) refl
+            (subst (Fits 2 l' (k.hand t)) (sym (set_here s.homes t (some (Some x)) (omega (arith, k.slots))))
+            (fits_end _ l (k.hand t) _ x fit a)),
+        (λ y e. ap (λ z. (Kernel (put_kernel_view d t z), [])) (one t _ x y e)
+            ∙ ap (λ u. (Kernel (put_kernel_view d u y), [])) (sym (cell_of_word t))),
+      )
 
-  takes_here : (n id t : ℕ) (h : Hand T) → h.thread ≡ t → t < n → h.taking ≡ None → Allows (KeepsRule n) n id (Thread h, []) (word_of t) (λ m. m) (TakeTells (step n (word_of t) 0 0 none) (Thread h, []))
-  takes_here n id t h is near idle s k long at small = let m : ℕ = get_or s.words (word_of t) 0 in let l = line k.desk t in let fit = thread_sees n id t s k h at is near in
+  takes_here : (n id t : ℕ) (h : ThreadView T) → h.thread ≡ t → t < n → h.taking ≡ None
+      → Allows (KeepsRule n) n id (Thread h, []) (word_of t) (λ m. m)
+      (TakeTells (step n (word_of t) 0 0 none) (Thread h, []))
+  takes_here n id t h is near idle s k long at small = let m : ℕ = get_or s.words (word_of t) 0 in
+      let l = line k.kernel_view t in let fit = thread_sees n id t s k h at is near in
       dite (ℕ_discrete m 2)
-      (λ e. let r = fits_take m l h _ fit e idle in let x : T = r.0 in let h' : Hand T = record h { taking = Some x } in (
+      (λ e. let r = fits_take m l h _ fit e idle in let x : T = r.0 in let h' : ThreadView T =
+      record h { taking = Some x } in (
         Thread h',
         takes t (Some x),
         r.1,
-        thread_changes n id t s k h at is near m h' (set s.homes t none) (length-set s.homes t none ∙ k.slots) (λ u ne. set_else s.homes t u none ne) is
+        thread_changes n id t s k h at is near m h' (set s.homes t none) (length-set s.homes t none ∙ k.slots)
+            (λ u ne. set_else s.homes t u none ne) is
             (subst (Fits m l h') (sym (set_here s.homes t none (omega (arith, k.slots)))) r.2),
         ((λ z. (x, ap (λ u. (Thread h', (u, Some x) ∷ [])) (sym (cell_of_word t)))), (λ ne. absurd (ne e))),
       ))
@@ -75,37 +137,76 @@ module _ {T : Type 0} where
   unfolding inner
   same_inside x y o e f = ap (inner x) (sym e ∙ f)
 
-  gives_here : (n id t : ℕ) (h : Hand T) (x : T) → h.thread ≡ t → t < n → h.taking ≡ Some x → Allows (KeepsRule n) n id (Thread h, (t, None) ∷ []) (word_of t) (λ _. 0) (λ _. GiveBackTells (step n (word_of t) 0 0 none) (Thread h, (t, None) ∷ []) 0)
-  gives_here n id t h x is near a s k long at small = let l = line k.desk t in let fit = thread_sees n id t s k h at is near in let h' : Hand T = record h { taken = h.taken ++ x ∷ []; taking = None } in (
-    Thread h',
-    gives,
-    tt,
-    thread_changes n id t s k h at is near 0 h' (set s.homes t (some None)) (length-set s.homes t (some None) ∙ k.slots) (λ u ne. set_else s.homes t u (some None) ne) is
-        (subst (Fits 0 l h') (sym (set_here s.homes t (some None) (omega (arith, k.slots)))) (fits_give _ l h _ x fit a)),
-    (λ y e. ap (λ z. (Thread (record h { taken = h.taken ++ z ∷ []; taking = None }), [])) (same_inside x y h.taking a e)),
-  )
+  gives_here : (n id t : ℕ) (h : ThreadView T) (x : T) → h.thread ≡ t → t < n → h.taking ≡ Some x
+      → Allows (KeepsRule n) n id (Thread h, (t, None) ∷ []) (word_of t) (λ _. 0)
+      (λ _. GiveBackTells (step n (word_of t) 0 0 none) (Thread h, (t, None) ∷ []) 0)
+  gives_here n id t h x is near a s k long at small = let l = line k.kernel_view t in
+      let fit = thread_sees n id t s k h at is near in let h' : ThreadView T =
+      record h { taken = h.taken ++ x ∷ []; taking = None } in (
+        Thread h',
+        gives,
+        tt,
+        thread_changes n id t s k h at is near 0 h' (set s.homes t (some None))
+            (length-set s.homes t (some None) ∙ k.slots) (λ u ne. set_else s.homes t u (some None) ne) is
+            (subst (Fits 0 l h') (sym (set_here s.homes t (some None) (omega (arith, k.slots))))
+            (fits_give _ l h _ x fit a)),
+        (λ y e. ap (λ z. (Thread (record h { taken = h.taken ++ z ∷ []; taking = None }), []))
+            (same_inside x y h.taking a e)),
+      )
 
-  -- the same, for a seat and a word that a clause speaks of
+  -- the same, for a token and a word that a clause names
   abbrev pub Lawful : ℕ → ℕ → ℕ → ℕ → Sat T → (ℕ → ℕ) → (ℕ → Sat T → ℕ → Sat T → Type 0) → Type 0
   Lawful key n id w m f then = Allows (KeepsRule key) n id m w f (then w m)
 
-  along : (key n id t w : ℕ) (f : ℕ → ℕ) (then : ℕ → Sat T → ℕ → Sat T → Type 0) (m m' : Sat T) → key ≡ n → m ≡ m' → w ≡ word_of t → Lawful n n id (word_of t) m' f then → Lawful key n id w m f then
-  along key n id t w f then m m' e is at law = subst (λ (z : ℕ × Sat T × ℕ). Lawful z.0 n id z.2 z.1 f then) (λ i. (sym e i, sym is i, sym at i)) law
+  along : (key n id t w : ℕ) (f : ℕ → ℕ) (then : ℕ → Sat T → ℕ → Sat T → Type 0) (m m' : Sat T) → key ≡ n → m ≡ m'
+      → w ≡ word_of t → Lawful n n id (word_of t) m' f then → Lawful key n id w m f then
+  along key n id t w f then m m' e is at law =
+      subst (λ (z : ℕ × Sat T × ℕ). Lawful z.0 n id z.2 z.1 f then) (λ i. (sym e i, sym is i, sym at i)) law
 
-  pub open_allowed : (key n id t w : ℕ) (m : Sat T) (d : Desk T) → key ≡ n → w ≡ word_of t → m ≡ (Kernel d, []) → t < n → Allows (KeepsRule key) n id m w (λ r. either (eqb r 0) 1 r) (OpenTells (step n w 0 1 none) m)
-  open_allowed key n id t w m d e at is h = along key n id t w (λ r. either (eqb r 0) 1 r) (λ v. OpenTells (step n v 0 1 none)) m (Kernel d, []) e is at (opens_here n id t d h)
+  pub open_allowed : (key n id t w : ℕ) (m : Sat T) (d : KernelView T) → key ≡ n → w ≡ word_of t → m ≡ (Kernel d, [])
+      → t < n → Allows (KeepsRule key) n id m w (λ r. either (eqb r 0) 1 r) (OpenTells (step n w 0 1 none) m)
+  open_allowed key n id t w m d e at is h =
+      along key n id t w (λ r. either (eqb r 0) 1 r) (λ v. OpenTells (step n v 0 1 none)) m (
+        Kernel d,
+        [],
+      ) e is at (opens_here n id t d h)
 
-  pub cancel_allowed : (key n id t w : ℕ) (m : Sat T) (d : Desk T) → key ≡ n → w ≡ word_of t → m ≡ (Kernel d, []) → t < n → (line d t).opened ≡ true → (line d t).putting ≡ false → Allows (KeepsRule key) n id m w (λ _. 0) (λ _. CancelTells (step n w 0 0 none) m 0)
-  cancel_allowed key n id t w m d e at is h a b = along key n id t w (λ _. 0) (λ v q _. CancelTells (step n v 0 0 none) q 0) m (Kernel d, []) e is at (cancels_here n id t d h a b)
+  pub cancel_allowed : (key n id t w : ℕ) (m : Sat T) (d : KernelView T) → key ≡ n → w ≡ word_of t → m ≡ (Kernel d, [])
+      → t < n → (line d t).opened ≡ true → (line d t).putting ≡ false
+      → Allows (KeepsRule key) n id m w (λ _. 0) (λ _. CancelTells (step n w 0 0 none) m 0)
+  cancel_allowed key n id t w m d e at is h a b =
+      along key n id t w (λ _. 0) (λ v q _. CancelTells (step n v 0 0 none) q 0) m (
+        Kernel d,
+        [],
+      ) e is at (cancels_here n id t d h a b)
 
-  pub begin_allowed : (key n id t w : ℕ) (m : Sat T) (d : Desk T) → key ≡ n → w ≡ word_of t → m ≡ (Kernel d, []) → t < n → (line d t).opened ≡ true → (line d t).putting ≡ false → Allows (KeepsRule key) n id m w (λ r. r) (BeginPutTells (step n w 0 0 none) m)
-  begin_allowed key n id t w m d e at is h a b = along key n id t w (λ r. r) (λ v. BeginPutTells (step n v 0 0 none)) m (Kernel d, []) e is at (begins_here n id t d h a b)
+  pub begin_allowed : (key n id t w : ℕ) (m : Sat T) (d : KernelView T) → key ≡ n → w ≡ word_of t → m ≡ (Kernel d, [])
+      → t < n → (line d t).opened ≡ true → (line d t).putting ≡ false
+      → Allows (KeepsRule key) n id m w (λ r. r) (BeginPutTells (step n w 0 0 none) m)
+  begin_allowed key n id t w m d e at is h a b =
+      along key n id t w (λ r. r) (λ v. BeginPutTells (step n v 0 0 none)) m (
+        Kernel d,
+        [],
+      ) e is at (begins_here n id t d h a b)
 
-  pub end_allowed : (key n id t w : ℕ) (m : Sat T) (d : Desk T) (x : T) → key ≡ n → w ≡ word_of t → m ≡ (Kernel d, (t, Some x) ∷ []) → t < n → (line d t).putting ≡ true → Allows (KeepsRule key) n id m w (λ _. 2) (λ _. EndPutTells (step n w 2 0 none) m 2)
-  end_allowed key n id t w m d x e at is h a = along key n id t w (λ _. 2) (λ v q _. EndPutTells (step n v 2 0 none) q 2) m (Kernel d, (t, Some x) ∷ []) e is at (ends_here n id t d x h a)
+  pub end_allowed : (key n id t w : ℕ) (m : Sat T) (d : KernelView T) (x : T) → key ≡ n → w ≡ word_of t
+      → m ≡ (Kernel d, (t, Some x) ∷ []) → t < n → (line d t).putting ≡ true
+      → Allows (KeepsRule key) n id m w (λ _. 2) (λ _. EndPutTells (step n w 2 0 none) m 2)
+  end_allowed key n id t w m d x e at is h a =
+      along key n id t w (λ _. 2) (λ v q _. EndPutTells (step n v 2 0 none) q 2) m (Kernel d, (t, Some x) ∷ []) e is at
+      (ends_here n id t d x h a)
 
-  pub take_allowed : (key n id t w : ℕ) (m : Sat T) (h : Hand T) → key ≡ n → w ≡ word_of t → m ≡ (Thread h, []) → h.thread ≡ t → t < n → h.taking ≡ None → Allows (KeepsRule key) n id m w (λ r. r) (TakeTells (step n w 0 0 none) m)
-  take_allowed key n id t w m h e at is a near b = along key n id t w (λ r. r) (λ v. TakeTells (step n v 0 0 none)) m (Thread h, []) e is at (takes_here n id t h a near b)
+  pub take_allowed : (key n id t w : ℕ) (m : Sat T) (h : ThreadView T) → key ≡ n → w ≡ word_of t → m ≡ (Thread h, [])
+      → h.thread ≡ t → t < n → h.taking ≡ None
+      → Allows (KeepsRule key) n id m w (λ r. r) (TakeTells (step n w 0 0 none) m)
+  take_allowed key n id t w m h e at is a near b = along key n id t w (λ r. r) (λ v. TakeTells (step n v 0 0 none)) m (
+    Thread h,
+    [],
+  ) e is at (takes_here n id t h a near b)
 
-  pub give_allowed : (key n id t w : ℕ) (m : Sat T) (h : Hand T) (x : T) → key ≡ n → w ≡ word_of t → m ≡ (Thread h, (t, None) ∷ []) → h.thread ≡ t → t < n → h.taking ≡ Some x → Allows (KeepsRule key) n id m w (λ _. 0) (λ _. GiveBackTells (step n w 0 0 none) m 0)
-  give_allowed key n id t w m h x e at is a near b = along key n id t w (λ _. 0) (λ v q _. GiveBackTells (step n v 0 0 none) q 0) m (Thread h, (t, None) ∷ []) e is at (gives_here n id t h x a near b)
+  pub give_allowed : (key n id t w : ℕ) (m : Sat T) (h : ThreadView T) (x : T) → key ≡ n → w ≡ word_of t
+      → m ≡ (Thread h, (t, None) ∷ []) → h.thread ≡ t → t < n → h.taking ≡ Some x
+      → Allows (KeepsRule key) n id m w (λ _. 0) (λ _. GiveBackTells (step n w 0 0 none) m 0)
+  give_allowed key n id t w m h x e at is a near b =
+      along key n id t w (λ _. 0) (λ v q _. GiveBackTells (step n v 0 0 none) q 0) m (Thread h, (t, None) ∷ []) e is at
+      (gives_here n id t h x a near b)

@@ -1,4 +1,4 @@
-pub mod Laws
+pub mod HandoffLaws
 pub mod Rule
 pub mod Seated
 pub mod Steps

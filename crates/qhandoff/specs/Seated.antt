@@ -1,18 +1,19 @@
--- Invariants of a seat between two calls.
+-- Invariants of a token between two calls.
 use Rattle.std.specs.Prelude.{◌≡◌, ℕ, ◌<◌, false, [], length, Option, None}
 use Rattle.atomic_table.specs.declared.shared.Seat.{Seat}
 use Rattle.qhandoff.specs.declared.view.View.{View}
 use Rattle.qhandoff.specs.declared.view.View.TheVariants.{Kernel, Thread}
 use Rattle.qhandoff.specs.Rule.{line}
-use Rattle.qhandoff.specs.Steps.{desk_in, hand_in}
+use Rattle.qhandoff.specs.Steps.{kernel_view_in, hand_in}
 
 module _ {T : Type 0} where
-  -- it is the kernel's seat, holds no slot, has a line for each cell, and isn't putting anything
+  -- it is the kernel's token; it holds no slot, has a line for each cell, and isn't putting anything
   abbrev pub IsKernel : Seat (Option T) (View T) → Type 0
-  IsKernel s = (s.me ≡ (Kernel (desk_in s.me.0), [])) × (length (desk_in s.me.0).lines ≡ s.table_id.slots)
-      × ((t : ℕ) → (line (desk_in s.me.0) t).putting ≡ false)
+  IsKernel s = (s.me ≡ (Kernel (kernel_view_in s.me.0), []))
+      × (length (kernel_view_in s.me.0).lines ≡ s.table_id.slots)
+      × ((t : ℕ) → (line (kernel_view_in s.me.0) t).putting ≡ false)
 
-  -- it is the seat of thread t, which has a cell; it holds no slot and isn't taking anything
+  -- it is the token of thread t, which has a cell; it holds no slot and isn't taking anything
   abbrev pub IsThread : Seat (Option T) (View T) → ℕ → Type 0
   IsThread s t = (s.me ≡ (Thread (hand_in s.me.0), [])) × (t < s.table_id.slots)
       × ((hand_in s.me.0).thread ≡ t) × ((hand_in s.me.0).taking ≡ None)

@@ -1,123 +1,123 @@
--- The kinds of step, and what each does to its seat: what the seat knows and holds afterwards. In each,
--- `st.word` is the index of the word, which gives the cell, `m` is the seat before, `r` the value that was
--- found in the word, and `m'` the seat after.
+-- The kinds of step, and the effect of each on its token: the knowledge and the slots that it has afterwards.
+-- In each, `st.word` is the index of the word, which gives the cell. `m` is the token before, `r` is the
+-- value that was found in the word, and `m'` is the token after.
 use Rattle.std.specs.Prelude.{◌≡◌, ◌⊎◌, ℕ, suc, true, false, List, [], ◌∷◌, ◌++◌, replicate, Option, Some}
 use Rattle.std.specs.Prelude.{None}
 use Rattle.atomic_table.specs.Table.{Me, Step}
-use Rattle.qhandoff.specs.declared.view.Line.{Line}
-use Rattle.qhandoff.specs.declared.view.Desk.{Desk}
-use Rattle.qhandoff.specs.declared.view.Hand.{Hand}
+use Rattle.qhandoff.specs.declared.view.CellView.{CellView}
+use Rattle.qhandoff.specs.declared.view.KernelView.{KernelView}
+use Rattle.qhandoff.specs.declared.view.ThreadView.{ThreadView}
 use Rattle.qhandoff.specs.declared.view.View.{View}
 use Rattle.qhandoff.specs.declared.view.View.TheVariants.{Kernel, Thread, Joined}
 use Rattle.qhandoff.specs.Rule.{cell_of, idle_line, new_hand, line, with_line}
 
--- a relation between the step, the seat before, the value found in the word, and the seat after
+-- a relation between the step, the token before, the value found in the word, and the token after
 abbrev pub Tells : Type 0 → Type 1
 Tells T = Step (Option T) → Me (Option T) (View T) → ℕ → Me (Option T) (View T) → Type 0
 
 module _ {T : Type 0} where
-  -- k thread seats of n were made, and no cell was used
-  abbrev pub seated_desk : ℕ → ℕ → Desk T
-  seated_desk k n = record { seats = k; lines = replicate n idle_line }
+  -- k thread tokens of n were made, and no cell was used
+  abbrev pub seated_kernel_view : ℕ → ℕ → KernelView T
+  seated_kernel_view k n = record { seats = k; lines = replicate n idle_line }
 
-  -- the first seat's knowledge as the cells are made: no thread's seat is split off
+  -- the first token's knowledge as the cells are made: no thread's token is split off
   abbrev pub first_view : ℕ → View T
-  first_view n = Kernel (seated_desk 0 n)
+  first_view n = Kernel (seated_kernel_view 0 n)
 
-  -- the kernel's seat's knowledge after one more thread seat is split off
+  -- the knowledge of the kernel's token after one more thread token is split off
   abbrev pub seats_one_more : View T → View T
   seats_one_more (Kernel d) = Kernel (record d { seats = suc d.seats })
   seats_one_more v = v
 
-  -- the knowledge of the thread seat that is split off
+  -- the knowledge of the thread token that is split off
   abbrev pub next_hand : View T → View T
   next_hand (Kernel d) = Thread (new_hand d.seats)
   next_hand v = Joined
 
-  -- the desk in the view of the kernel's seat; an empty one for other views
-  abbrev pub desk_in : View T → Desk T
-  desk_in (Kernel d) = d
-  desk_in v = seated_desk 0 0
+  -- the desk in the view of the kernel's token; an empty desk for other views
+  abbrev pub kernel_view_in : View T → KernelView T
+  kernel_view_in (Kernel d) = d
+  kernel_view_in v = seated_kernel_view 0 0
 
-  -- the hand in the view of a thread's seat; a new one for other views
-  abbrev pub hand_in : View T → Hand T
+  -- the hand in the view of a thread's token; a new hand for other views
+  abbrev pub hand_in : View T → ThreadView T
   hand_in (Thread h) = h
   hand_in v = new_hand 0
 
   -- the desk after thread t's cell is opened
-  abbrev pub opened_desk : Desk T → ℕ → Desk T
-  opened_desk d t = with_line d t (record (line d t) { opened = true })
+  abbrev pub opened_kernel_view : KernelView T → ℕ → KernelView T
+  opened_kernel_view d t = with_line d t (record (line d t) { opened = true })
 
   -- the desk after the opening of thread t's cell is cancelled
-  abbrev pub cancelled_desk : Desk T → ℕ → Desk T
-  cancelled_desk d t = with_line d t (record (line d t) { opened = false })
+  abbrev pub cancelled_kernel_view : KernelView T → ℕ → KernelView T
+  cancelled_kernel_view d t = with_line d t (record (line d t) { opened = false })
 
   -- the desk while a completion is being put for thread t
-  abbrev pub putting_desk : Desk T → ℕ → Desk T
-  putting_desk d t = with_line d t (record (line d t) { putting = true })
+  abbrev pub putting_kernel_view : KernelView T → ℕ → KernelView T
+  putting_kernel_view d t = with_line d t (record (line d t) { putting = true })
 
   -- the desk after x was put for thread t
-  abbrev pub put_desk : Desk T → ℕ → T → Desk T
-  put_desk d t x = with_line d t
+  abbrev pub put_kernel_view : KernelView T → ℕ → T → KernelView T
+  put_kernel_view d t x = with_line d t
       (record (line d t) { opened = false; putting = false; put = (line d t).put ++ x ∷ [] })
 
-  -- the desk after the seat of thread t, which took ts, is joined
-  abbrev pub joined_at : Desk T → ℕ → List T → Desk T
+  -- the desk after the token of thread t, which took ts, is joined
+  abbrev pub joined_at : KernelView T → ℕ → List T → KernelView T
   joined_at d t ts = with_line d t (record (line d t) { taken = Some ts })
 
-  -- the desk after the seat with hand h is joined
-  abbrev pub joined_desk : Desk T → Hand T → Desk T
-  joined_desk d h = joined_at d h.thread h.taken
+  -- the desk after the token with hand h is joined
+  abbrev pub joined_kernel_view : KernelView T → ThreadView T → KernelView T
+  joined_kernel_view d h = joined_at d h.thread h.taken
 
   -- the hand of a thread that is taking x
-  abbrev pub taking_hand : Hand T → T → Hand T
+  abbrev pub taking_hand : ThreadView T → T → ThreadView T
   taking_hand h x = record h { taking = Some x }
 
   -- the hand of a thread that took x
-  abbrev pub taken_hand : Hand T → T → Hand T
+  abbrev pub taken_hand : ThreadView T → T → ThreadView T
   taken_hand h x = record h { taken = h.taken ++ x ∷ []; taking = None }
 
-  -- the kernel's seat can't know that the cell is idle: it is opened, or something was put
-  abbrev pub IsBusy : Line T → Type 0
+  -- as far as the kernel's token knows, the cell may not be idle: it is opened, or something was put
+  abbrev pub IsBusy : CellView T → Type 0
   IsBusy l = (l.opened ≡ true) ⊎ ¬ (l.put ≡ [])
 
-  -- open, by the kernel's seat, 0 to 1: if it found 0, the cell wasn't opened and is opened now; otherwise
-  -- nothing changes, and the cell is opened already or something was put
+  -- open, by the kernel's token, from 0 to 1. If it found 0, the cell wasn't opened and is opened now.
+  -- Otherwise nothing changes, and the cell is opened already or something was put.
   abbrev pub OpenTells : Tells T
   OpenTells st m r m' = (r ≡ 0
-      → (m' ≡ (Kernel (opened_desk (desk_in m.0) (cell_of st.word)), m.1))
-      × ((line (desk_in m.0) (cell_of st.word)).opened ≡ false))
-      × (¬ (r ≡ 0) → (m' ≡ m) × IsBusy (line (desk_in m.0) (cell_of st.word)))
+      → (m' ≡ (Kernel (opened_kernel_view (kernel_view_in m.0) (cell_of st.word)), m.1))
+      × ((line (kernel_view_in m.0) (cell_of st.word)).opened ≡ false))
+      × (¬ (r ≡ 0) → (m' ≡ m) × IsBusy (line (kernel_view_in m.0) (cell_of st.word)))
 
-  -- cancel, by the kernel's seat, 0 over 1: the cell isn't opened any more
+  -- cancel, by the kernel's token, from 1 to 0: the cell is no longer opened
   abbrev pub CancelTells : Tells T
-  CancelTells st m r m' = m' ≡ (Kernel (cancelled_desk (desk_in m.0) (cell_of st.word)), m.1)
+  CancelTells st m r m' = m' ≡ (Kernel (cancelled_kernel_view (kernel_view_in m.0) (cell_of st.word)), m.1)
 
-  -- begin put, by the kernel's seat, at 1: it holds the slot, which is empty
+  -- begin put, by the kernel's token, at 1: it holds the slot, which is empty
   abbrev pub BeginPutTells : Tells T
   BeginPutTells st m r m' = m'
-      ≡ (Kernel (putting_desk (desk_in m.0) (cell_of st.word)), (cell_of st.word, None) ∷ m.1)
+      ≡ (Kernel (putting_kernel_view (kernel_view_in m.0) (cell_of st.word)), (cell_of st.word, None) ∷ m.1)
 
-  -- end put, by the kernel's seat, 2 over 1: the value that is in the slot by then was put, and the slot is
-  -- released
+  -- end put, by the kernel's token, from 1 to 2: the value that is in the slot by then was put, and the slot
+  -- is released
   abbrev pub EndPutTells : Tells T
   EndPutTells st m r m' = (x : T) → m.1 ≡ (cell_of st.word, Some x) ∷ []
-      → m' ≡ (Kernel (put_desk (desk_in m.0) (cell_of st.word) x), [])
+      → m' ≡ (Kernel (put_kernel_view (kernel_view_in m.0) (cell_of st.word) x), [])
 
-  -- take, by the thread's seat: if it found 2, it holds the slot and the value in it; otherwise
-  -- nothing changes
+  -- take, by the thread's token: if it found 2, it holds the slot and the value in it; otherwise nothing
+  -- changes
   abbrev pub TakeTells : Tells T
   TakeTells st m r m' = (r ≡ 2
       → (x : T) × (m' ≡ (Thread (taking_hand (hand_in m.0) x), (cell_of st.word, Some x) ∷ m.1)))
       × (¬ (r ≡ 2) → m' ≡ m)
 
-  -- give back, by the thread's seat, 0 over 2: it has taken the value that it was taking, and the slot is
+  -- give back, by the thread's token, from 2 to 0: it has taken the value that it was taking, and the slot is
   -- released
   abbrev pub GiveBackTells : Tells T
   GiveBackTells st m r m' = (x : T) → (hand_in m.0).taking ≡ Some x
       → m' ≡ (Thread (taken_hand (hand_in m.0) x), [])
 
-  -- join, by the kernel's seat: the thread's line now has what its seat took
+  -- join, by the kernel's token: the thread's line now has the list that its token took
   abbrev pub joined_views : View T → View T → View T
-  joined_views (Kernel d) (Thread h) = Kernel (joined_desk d h)
+  joined_views (Kernel d) (Thread h) = Kernel (joined_kernel_view d h)
   joined_views v w = v

@@ -1,14 +1,14 @@
--- Words for contracts about cells, seats and the completions that are left.
+-- Definitions for contracts about cells, tokens and the completions that are left.
 use Rattle.std.specs.Prelude.{◌<◌, ◌≡◌, ℕ, ◌==◌, if◌then◌else◌, List, [], ◌∷◌, Option, Some, None}
 use mathlib.Core.Option.{none, some}
 use mathlib.Core.Option as maybe
 use lib.ListN.{get_elem?}
-use Rattle.qhandoff.specs.declared.view.Desk.{Desk}
+use Rattle.qhandoff.specs.declared.view.KernelView.{KernelView}
 use Rattle.qhandoff.specs.declared.seats.KernelSeat.{KernelSeat}
 use Rattle.qhandoff.specs.declared.seats.ThreadSeat.{ThreadSeat}
 use Rattle.qhandoff.specs.declared.cells.Cells.{Cells}
 use Rattle.atomic_table.specs.Seated.{TableId}
-use Rattle.qhandoff.specs.Steps.{desk_in, hand_in}
+use Rattle.qhandoff.specs.Steps.{kernel_view_in, hand_in}
 
 module _ {T : Type 0} where
   -- the identity of these cells
@@ -19,27 +19,27 @@ module _ {T : Type 0} where
   abbrev pub count : Cells T → ℕ
   count c = c.table.shared.table_id.slots
 
-  -- the kernel's seat's knowledge
-  abbrev pub desk : KernelSeat T → Desk T
-  desk s = desk_in s.seat.me.0
+  -- the knowledge of the kernel's token
+  abbrev pub kernel_view : KernelSeat T → KernelView T
+  kernel_view s = kernel_view_in s.seat.me.0
 
-  -- the identity of the cells that the kernel's seat belongs to
+  -- the identity of the cells that the kernel's token belongs to
   abbrev pub kernel_id : KernelSeat T → TableId
   kernel_id s = s.seat.table_id
 
-  -- the identity of the cells that a thread's seat belongs to
+  -- the identity of the cells that a thread's token belongs to
   abbrev pub thread_id : ThreadSeat T → TableId
   thread_id s = s.seat.table_id
 
-  -- the number of the cell that a thread's seat empties
+  -- the index of the cell that a thread's token empties
   abbrev pub thread_of : ThreadSeat T → ℕ
   thread_of s = s.thread
 
-  -- it is the kernel's seat of these cells
+  -- it is the kernel's token of these cells
   abbrev pub IsKernelOf : Cells T → KernelSeat T → Type 0
   IsKernelOf c s = kernel_id s ≡ cells_id c
 
-  -- it is a thread's seat of these cells
+  -- it is a thread's token of these cells
   abbrev pub IsThreadOf : Cells T → ThreadSeat T → Type 0
   IsThreadOf c s = thread_id s ≡ cells_id c
 
@@ -47,12 +47,12 @@ module _ {T : Type 0} where
   abbrev pub taken : ThreadSeat T → List T
   taken s = (hand_in s.seat.me.0).taken
 
-  -- the seats belong to these cells, and the seat at index k empties cell k
+  -- the tokens belong to these cells, and the token at index k empties cell k
   abbrev pub IsRow : TableId → List (ThreadSeat T) → Type 0
   IsRow z seats = (k : ℕ) (s : ThreadSeat T) → get_elem? seats k ≡ some s
       → (thread_id s ≡ z) × (thread_of s ≡ k)
 
-  -- the completions that the seat took; none if there is no seat
+  -- the completions that the token took; the list is empty if there is no token
   abbrev pub took : maybe.Option (ThreadSeat T) → List T
   took none = []
   took (some s) = taken s
@@ -72,10 +72,10 @@ module _ {T : Type 0} where
   tagged t None = []
   tagged t (Some x) = (t, x) ∷ []
 
-  -- the threads are in rising order
+  -- the threads are in ascending order
   abbrev pub Rises : List (ℕ × T) → Type 0
   Rises xs = (j k : ℕ) (x y : ℕ × T) → get_elem? xs j ≡ some x → get_elem? xs k ≡ some y → j < k → x.0 < y.0
 
-  -- each thread number is below n
+  -- each thread index is below n
   abbrev pub AreBelow : ℕ → List (ℕ × T) → Type 0
   AreBelow n xs = (k : ℕ) (x : ℕ × T) → get_elem? xs k ≡ some x → x.0 < n

@@ -1,36 +1,41 @@
-//! The operations of the seats. `atomic_table` makes every load, store and exchange of a word sequentially consistent;
-//! a comment at each says which weaker order would be enough.
+//! The operations of the tokens. `atomic_table` makes every load, store and exchange of a word sequentially
+//! consistent. A comment at each says which weaker order would be enough.
 
 ghost use Rattle.std.specs.Prelude.{◌≡◌, ◌<◌, ◌++◌, [], ◌∷◌, true, false, MatchBool, MatchOption};
 ghost use Rattle.std.specs.Bool.{OnTrue};
 ghost use Rattle.qhandoff.specs.Rule.{line};
-ghost use Rattle.qhandoff.specs.Steps.{opened_desk, cancelled_desk, put_desk, IsBusy};
-ghost use Rattle.qhandoff.specs.Words.{count, desk, taken, kernel_id, thread_id, thread_of, IsKernelOf, IsThreadOf};
+ghost use Rattle.qhandoff.specs.Steps.{opened_kernel_view, cancelled_kernel_view, put_kernel_view, IsBusy};
+ghost use Rattle.qhandoff.specs.Words.{count, kernel_view, taken, kernel_id, thread_id, thread_of};
+ghost use Rattle.qhandoff.specs.Words.{IsKernelOf, IsThreadOf};
 
 use crate::cells::{Cells, word_of};
 use crate::seats::{KernelSeat, ThreadSeat};
 use crate::steps::{BeginPut, Cancel, EndPut, GiveBack, Open, Take};
 
-/// The cell is idle: it wasn't opened, or its last completion was taken.
+/// The cell is idle: it isn't opened, and has no completion.
 const IDLE: u64 = 0;
 
 /// The cell is opened for a completion that is still to come.
 const OPENED: u64 = 1;
 
-/// A completion was put that isn't taken.
+/// The cell has a completion that was put and isn't taken yet.
 const FULL: u64 = 2;
 
 impl<T: Drop> KernelSeat<T> {
-    /// Opens the cell of a thread and returns true. Returns false and changes nothing if the cell isn't idle: it is
-    /// opened already, or its completion isn't taken yet.
+    /// Opens the cell of a thread and returns `true`. Returns `false` and changes nothing if the cell isn't
+    /// idle: it is opened already, or its completion isn't taken yet.
     pub fn open(&mut self, cells: &Cells<T>, thread: usize) -> bool
         requires cells { IsKernelOf cells.now self.old }
         requires thread { thread < count cells.now }
         ensures cells { kernel_id self.new ≡ kernel_id self.old }
-        ensures won { OnTrue result ((line (desk self.new) thread).opened ≡ true) }
-        ensures desk { MatchBool result ((desk self.new ≡ opened_desk (desk self.old) thread) × ((line (desk self.old) thread).opened ≡ false)) ((desk self.new ≡ desk self.old) × IsBusy (line (desk self.old) thread)) }
+        ensures won { OnTrue result ((line (kernel_view self.new) thread).opened ≡ true) }
+        ensures kernel_view { MatchBool result
+            ((kernel_view self.new ≡ opened_kernel_view (kernel_view self.old) thread)
+            × ((line (kernel_view self.old) thread).opened ≡ false))
+            ((kernel_view self.new ≡ kernel_view self.old) × IsBusy (line (kernel_view self.old) thread)) }
     {
-        // SeqCst. Acquire is enough: it meets the release of the thread's last give back, which emptied the slot.
+        // This is SeqCst. Acquire is enough: it synchronizes with the release of the thread's last
+        // `GiveBack`, which emptied the slot.
         let found = cells
             .table
             .shared
@@ -42,11 +47,12 @@ impl<T: Drop> KernelSeat<T> {
     pub fn cancel(&mut self, cells: &Cells<T>, thread: usize)
         requires cells { IsKernelOf cells.now self.old }
         requires thread { thread < count cells.now }
-        requires opened { (line (desk self.old) thread).opened ≡ true }
+        requires opened { (line (kernel_view self.old) thread).opened ≡ true }
         ensures cells { kernel_id self.new ≡ kernel_id self.old }
-        ensures desk { desk self.new ≡ cancelled_desk (desk self.old) thread }
+        ensures kernel_view { kernel_view self.new ≡ cancelled_kernel_view (kernel_view self.old) thread }
     {
-        // SeqCst. Relaxed is enough: the slot wasn't touched, and the thread does the same at 0 as at 1.
+        // This is SeqCst. Relaxed is enough: the slot wasn't touched, and the thread does the same at 0 as at
+        // 1.
         cells
             .table
             .shared
@@ -57,23 +63,25 @@ impl<T: Drop> KernelSeat<T> {
     pub fn put(&mut self, cells: &Cells<T>, thread: usize, completion: T)
         requires cells { IsKernelOf cells.now self.old }
         requires thread { thread < count cells.now }
-        requires opened { (line (desk self.old) thread).opened ≡ true }
+        requires opened { (line (kernel_view self.old) thread).opened ≡ true }
         ensures cells { kernel_id self.new ≡ kernel_id self.old }
-        ensures desk { desk self.new ≡ put_desk (desk self.old) thread completion }
+        ensures kernel_view { kernel_view self.new ≡ put_kernel_view
+            (kernel_view self.old) thread completion }
     {
         let shared = &cells.table.shared;
         let word = word_of(thread);
-        // SeqCst. No load is needed but by the proof: no other seat touches the slot of an opened cell.
+        // This load is SeqCst. Only the proof needs it: no other token touches the slot of an opened cell.
         shared.load::<BeginPut>(&mut self.seat, word);
-        // No atomic step: this seat holds the slot from then on, so this is a plain read and a plain write.
+        // This isn't atomic: the token now holds the slot, so this is a plain read and a plain write.
         drop(shared.exchange(&mut self.seat, thread, Some(completion)));
-        // SeqCst. Release is enough: a thread that finds 2 by an acquire sees the whole completion in the slot.
+        // This is SeqCst. Release is enough: a thread that loads 2 with Acquire sees the whole completion in
+        // the slot.
         shared.store::<EndPut>(&mut self.seat, word, FULL);
     }
 }
 
 impl<T: Drop> ThreadSeat<T> {
-    /// Returns the number of the thread, which is the number of its cell.
+    /// Returns the index of the thread, which is the index of its cell.
     pub fn thread(&self) -> usize
         ensures number { result ≡ thread_of self.now }
         ensures within { result < (thread_id self.now).slots }
@@ -81,23 +89,28 @@ impl<T: Drop> ThreadSeat<T> {
         self.thread
     }
 
-    /// Takes the completion out of the thread's cell; `None` if there is none. Tries once and never waits.
+    /// Takes the completion out of the thread's cell, or returns `None` if there is none. Tries once and
+    /// never waits.
     pub fn poll(&mut self, cells: &Cells<T>) -> Option<T>
         requires cells { IsThreadOf cells.now self.old }
         ensures cells { thread_id self.new ≡ thread_id self.old }
         ensures thread { thread_of self.new ≡ thread_of self.old }
-        ensures taken { MatchOption result (taken self.new ≡ taken self.old) (λ x. taken self.new ≡ taken self.old ++ x ∷ []) }
+        ensures taken { MatchOption result (taken self.new ≡ taken self.old)
+            (λ x. taken self.new ≡ taken self.old ++ x ∷ []) }
     {
         let shared = &cells.table.shared;
         let thread = self.thread;
         let word = word_of(thread);
-        // SeqCst. Acquire is enough: it meets the release of end put, so the whole completion is seen.
+        // This is SeqCst. Acquire is enough: it synchronizes with the release of `EndPut`, so it sees the
+        // whole completion.
         if shared.load::<Take>(&mut self.seat, word) != FULL {
             return None;
         }
-        // No atomic step: no other seat touches the slot of a full cell, so this is a plain read and a plain write.
+        // This isn't atomic: no other token touches the slot of a full cell, so this is a plain read and a
+        // plain write.
         let completion = shared.exchange(&mut self.seat, thread, None);
-        // SeqCst. Release is enough: a seat that finds 0 by an acquire sees the slot as it was left.
+        // This is SeqCst. Release is enough: a token that loads 0 with Acquire sees the slot as it is left
+        // here.
         shared.store::<GiveBack>(&mut self.seat, word, IDLE);
         completion
     }

@@ -1,4 +1,4 @@
-//! The cells, and how they lie in a table of words.
+//! The cells, and their layout in a table of words.
 
 ghost use Rattle.std.specs.Prelude.{◌≡◌, ◌*◌, ◌<◌, ◌≤◌, [], vec_capacity};
 ghost use Rattle.qhandoff.specs.Rule.{cell_of};
@@ -8,12 +8,13 @@ use crate::view::View;
 use atomic_table::Table;
 use std::alloc::Global;
 
-/// The distance between the words of two cells, in words of 8 bytes. Each cell's word has a cache line of its own, so a
-/// thread that polls its word isn't slowed down by writes to its neighbours'. The words between aren't used.
+/// The distance between the words of two cells, in words of 8 bytes. Each cell's word has a cache line of its
+/// own, so a thread that polls its word isn't slowed down by writes to the neighbouring words. The words
+/// between aren't used.
 pub(crate) const STRIDE: usize = 8;
 
-/// Returns the index of the word of a thread's cell. Any other layout would be as safe, and at worst slower, if no two
-/// cells have the same word.
+/// Returns the index of the word of a thread's cell. Any other layout without shared words would be as safe,
+/// and at worst slower.
 pub(crate) fn word_of(thread: usize) -> usize
     requires { thread < 64 }
     ensures word { result ≡ thread * 8 }
@@ -22,7 +23,7 @@ pub(crate) fn word_of(thread: usize) -> usize
     thread * STRIDE
 }
 
-/// One cell for each thread, and the room that `close` needs.
+/// One cell for each thread, and the memory that `close` needs.
 #[derive(Drop)]
 pub struct Cells<T: Drop> {
     pub(crate) table: Table<Option<T>, View<T>, usize, HandOff, Global>,

@@ -1,11 +1,11 @@
-//! Hands completions from the kernel to threads without a lock: each thread has a cell, which the kernel's seat fills
-//! and the thread's own seat empties.
+//! Hands completions from the kernel to threads without a lock. Each thread has a cell, which the kernel's
+//! token fills and the thread's own token empties.
 #![tactic(auto)]
 
 mod calls;
 pub mod cells;
 mod closing;
-pub mod laws;
+pub mod handoff_laws;
 mod making;
 pub mod seats;
 mod steps;

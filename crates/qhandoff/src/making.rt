@@ -1,11 +1,12 @@
-//! Makes the cells and their seats.
+//! Makes the cells and their tokens.
 
 ghost use Rattle.std.specs.Prelude.{◌≡◌, ◌<◌, ◌≤◌, ◌+◌, ℕ, ◌*◌, [], IfOk, IfErr, length};
 ghost use lib.ListN.{get_elem?};
 ghost use Rattle.qbase.specs.declared.errno.Errno.TheVariants.{Inval, NoMemory};
 ghost use Rattle.qhandoff.specs.declared.view.View.TheVariants.{Kernel};
-ghost use Rattle.qhandoff.specs.Steps.{seated_desk};
-ghost use Rattle.qhandoff.specs.Words.{cells_id, count, desk, taken, took, thread_id, thread_of, IsKernelOf, IsRow};
+ghost use Rattle.qhandoff.specs.Steps.{seated_kernel_view};
+ghost use Rattle.qhandoff.specs.Words.{cells_id, count, kernel_view, taken, took, thread_id, thread_of};
+ghost use Rattle.qhandoff.specs.Words.{IsKernelOf, IsRow};
 
 use crate::cells::{Cells, STRIDE};
 use crate::seats::{KernelSeat, ThreadSeat};
@@ -18,30 +19,37 @@ use std::alloc::{AllocError, Global};
 /// The greatest number of cells.
 const LIMIT: usize = 64;
 
-/// The cells, the seat that fills them, and for each cell the seat that empties it.
+/// The cells, the token that fills them, and for each cell the token that empties it.
 type Made<T> = (Cells<T>, KernelSeat<T>, Vec<ThreadSeat<T>>);
 
-/// Splits off the seat of the next thread.
+/// Splits off the token of the next thread.
 fn next_seat<T: Drop>(
     shared: &Shared<Option<T>, View<T>, usize, HandOff>,
     seat: &mut Seat<Option<T>, View<T>>,
     thread: usize,
 ) -> ThreadSeat<T>
-    requires sized { (shared.now.key ≡ shared.now.table_id.slots) × (shared.now.table_id.words ≡ shared.now.table_id.slots * 8) × (thread < shared.now.table_id.slots) }
-    requires seat { (seat.old.table_id ≡ shared.now.table_id) × (seat.old.me ≡ (Kernel (seated_desk thread shared.now.table_id.slots), [])) }
-    ensures seat { (seat.new.table_id ≡ seat.old.table_id) × (seat.new.me ≡ (Kernel (seated_desk (thread + 1) shared.now.table_id.slots), [])) }
-    ensures next { (thread_id result ≡ seat.old.table_id) × (thread_of result ≡ thread) × (taken result ≡ []) }
+    requires sized { (shared.now.key ≡ shared.now.table_id.slots)
+        × (shared.now.table_id.words ≡ shared.now.table_id.slots * 8) × (thread < shared.now.table_id.slots) }
+    requires seat { (seat.old.table_id ≡ shared.now.table_id)
+        × (seat.old.me ≡ (Kernel (seated_kernel_view thread shared.now.table_id.slots), [])) }
+    ensures seat { (seat.new.table_id ≡ seat.old.table_id)
+        × (seat.new.me ≡ (Kernel (seated_kernel_view (thread + 1) shared.now.table_id.slots), [])) }
+    ensures next { (thread_id result ≡ seat.old.table_id) × (thread_of result ≡ thread)
+        × (taken result ≡ []) }
 {
-    // A SeqCst load; Relaxed is enough: no other thread has a seat yet.
+    // This is a SeqCst load. Relaxed is enough: no other thread has a token yet.
     let seat = shared.split_seat::<SeatOne>(seat);
     ThreadSeat { thread, seat }
 }
 
-/// Makes `threads` idle cells and their seats, with the room for `close`.
+/// Makes `threads` idle cells and their tokens, with the memory that `close` needs.
 fn make_cells<T: Drop>(alloc: Global, threads: usize) -> Result<Made<T>, AllocError>
     requires { threads ≤ 64 }
-    ensures cells { IfOk result (λ r. (count r.0 ≡ threads) × IsKernelOf r.0 r.1 × (desk r.1 ≡ seated_desk threads threads)) }
-    ensures seats { IfOk result (λ r. (length r.2.items ≡ threads) × IsRow (cells_id r.0) r.2.items × ((k : ℕ) → took (get_elem? r.2.items k) ≡ [])) }
+    ensures cells { IfOk result
+        (λ r. (count r.0 ≡ threads) × IsKernelOf r.0 r.1
+        × (kernel_view r.1 ≡ seated_kernel_view threads threads)) }
+    ensures seats { IfOk result (λ r. (length r.2.items ≡ threads) × IsRow (cells_id r.0) r.2.items
+        × ((k : ℕ) → took (get_elem? r.2.items k) ≡ [])) }
 {
     let words = Vec::from_elem(alloc, 0u64, threads * STRIDE)?;
     let room = Vec::with_capacity(alloc, threads)?;
@@ -54,15 +62,19 @@ fn make_cells<T: Drop>(alloc: Global, threads: usize) -> Result<Made<T>, AllocEr
 }
 
 impl<T: Drop> Cells<T> {
-    /// Makes idle cells for `threads` threads, at most 64. Returns them with the seat that fills them and, for each
-    /// thread, the seat that empties its cell. Takes the memory that `close` needs, too. Error: `Inval` if `threads` is
-    /// more than 64, `NoMemory` if the allocator refuses.
+    /// Makes idle cells for `threads` threads, at most 64. Returns them with the token that fills them and,
+    /// for each thread, the token that empties its cell. Takes the memory that `close` needs, too.
+    ///
+    /// Fails with `Inval` if `threads` is more than 64, and with `NoMemory` if the allocator refuses.
     pub fn new(
         alloc: Global,
         threads: usize,
     ) -> Result<(Cells<T>, KernelSeat<T>, Vec<ThreadSeat<T>>), Errno>
-        ensures cells { IfOk result (λ r. (count r.0 ≡ threads) × IsKernelOf r.0 r.1 × (desk r.1 ≡ seated_desk threads threads)) }
-        ensures seats { IfOk result (λ r. (length r.2.items ≡ threads) × IsRow (cells_id r.0) r.2.items × ((k : ℕ) → took (get_elem? r.2.items k) ≡ [])) }
+        ensures cells { IfOk result
+            (λ r. (count r.0 ≡ threads) × IsKernelOf r.0 r.1
+            × (kernel_view r.1 ≡ seated_kernel_view threads threads)) }
+        ensures seats { IfOk result (λ r. (length r.2.items ≡ threads) × IsRow (cells_id r.0) r.2.items
+            × ((k : ℕ) → took (get_elem? r.2.items k) ≡ [])) }
         ensures within { IfOk result (λ r. threads ≤ 64) }
         ensures inval { 64 < threads → IfErr result (λ e. e ≡ Inval) }
         ensures memory { threads ≤ 64 → IfErr result (λ e. e ≡ NoMemory) }

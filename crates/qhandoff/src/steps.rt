@@ -1,8 +1,9 @@
-//! The rule of the cells' table, and a name for each kind of step. `specs/Rule.antt` and `specs/Steps.antt` define
-//! them.
+//! The rule of the table of cells, and a name for each kind of step. `specs/Rule.antt` and `specs/Steps.antt`
+//! define them.
 
 ghost use Rattle.qhandoff.specs.Rule.{KeepsRule};
-ghost use Rattle.qhandoff.specs.Steps.{first_view, seats_one_more, next_hand, joined_views, OpenTells, CancelTells, BeginPutTells, EndPutTells, TakeTells, GiveBackTells};
+ghost use Rattle.qhandoff.specs.Steps.{first_view, seats_one_more, next_hand, joined_views, OpenTells};
+ghost use Rattle.qhandoff.specs.Steps.{CancelTells, BeginPutTells, EndPutTells, TakeTells, GiveBackTells};
 ghost use Rattle.qhandoff.specs.declared.view.View.TheVariants.{Joined};
 
 use crate::view::View;
@@ -17,7 +18,7 @@ impl<T> TableRule<Option<T>, View<T>, usize> for HandOff {
     ghost first = { first_view };
 }
 
-/// Splits a thread's seat off the kernel's, as the cells are made.
+/// Splits a thread's token off the kernel's token, as the cells are made.
 pub struct SeatOne;
 
 impl<T> Split<View<T>> for SeatOne {
@@ -26,7 +27,8 @@ impl<T> Split<View<T>> for SeatOne {
     ghost right = { next_hand };
 }
 
-/// Joins a thread's seat to the kernel's, which then knows what it took, as the cells are closed.
+/// Joins a thread's token to the kernel's token, as the cells are closed. The kernel's token then knows the
+/// completions that the other took.
 pub struct JoinOne;
 
 impl<T> Join<View<T>> for JoinOne {
@@ -35,42 +37,42 @@ impl<T> Join<View<T>> for JoinOne {
     ghost spent = { Joined };
 }
 
-/// The kernel's seat opens a cell that is idle.
+/// The kernel's token opens an idle cell.
 pub struct Open;
 
 impl<T> Play<Option<T>, View<T>> for Open {
     ghost then = { OpenTells };
 }
 
-/// The kernel's seat makes an opened cell idle again.
+/// The kernel's token makes an opened cell idle again.
 pub struct Cancel;
 
 impl<T> Play<Option<T>, View<T>> for Cancel {
     ghost then = { CancelTells };
 }
 
-/// The kernel's seat begins to put a completion into an opened cell, and holds its slot from then on.
+/// The kernel's token begins to put a completion into an opened cell, and holds its slot until `EndPut`.
 pub struct BeginPut;
 
 impl<T> Play<Option<T>, View<T>> for BeginPut {
     ghost then = { BeginPutTells };
 }
 
-/// The kernel's seat has put a completion, and releases the slot.
+/// The kernel's token has put a completion, and releases the slot.
 pub struct EndPut;
 
 impl<T> Play<Option<T>, View<T>> for EndPut {
     ghost then = { EndPutTells };
 }
 
-/// A thread's seat begins to take the completion out of its full cell, and holds its slot from then on.
+/// A thread's token begins to take the completion out of its full cell, and holds its slot until `GiveBack`.
 pub struct Take;
 
 impl<T> Play<Option<T>, View<T>> for Take {
     ghost then = { TakeTells };
 }
 
-/// A thread's seat has taken the completion, and releases the slot.
+/// A thread's token has taken the completion, and releases the slot.
 pub struct GiveBack;
 
 impl<T> Play<Option<T>, View<T>> for GiveBack {

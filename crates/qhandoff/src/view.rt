@@ -1,41 +1,43 @@
-//! The knowledge of a seat. Only contracts and the rule use these types; the code makes no value of them.
+//! The knowledge of a token. Only contracts and the rule use these types: the code makes no value of them.
 
 use std::collections::LinkedList;
 
-/// The kernel's seat's knowledge of one thread.
-pub struct Line<T> {
+/// The knowledge of the kernel's token about one thread.
+pub struct CellView<T> {
     /// The thread's cell was opened, and nothing is put into it yet.
     pub opened: bool,
     /// A completion is being put for the thread.
     pub putting: bool,
-    /// All that was put for the thread, the oldest first.
+    /// All completions that were put for the thread, the oldest first.
     pub put: LinkedList<T>,
-    /// All that the thread's seat took, the oldest first; `None` until it is joined.
+    /// All completions that the thread's token took, the oldest first. It is `None` until the token is
+    /// joined.
     pub taken: Option<LinkedList<T>>,
 }
 
-/// The kernel's seat's knowledge: the number of thread seats that were made, and a line for each thread.
-pub struct Desk<T> {
+/// The knowledge of the kernel's token: the number of thread tokens that were made, and a line for each
+/// thread.
+pub struct KernelView<T> {
     pub seats: u64,
-    pub lines: LinkedList<Line<T>>,
+    pub lines: LinkedList<CellView<T>>,
 }
 
-/// A thread's seat's knowledge.
-pub struct Hand<T> {
-    /// The number of the thread's cell.
+/// The knowledge of a thread's token.
+pub struct ThreadView<T> {
+    /// The index of the thread's cell.
     pub thread: u64,
-    /// All that the thread took, the oldest first.
+    /// All completions that the thread took, the oldest first.
     pub taken: LinkedList<T>,
     /// The completion that the thread is taking out of its slot.
     pub taking: Option<T>,
 }
 
-/// The knowledge of any seat at the table.
+/// The knowledge of any token of the table.
 pub enum View<T> {
-    /// The kernel's seat.
-    Kernel(Desk<T>),
-    /// The seat of a thread.
-    Thread(Hand<T>),
-    /// A thread's seat that was joined: the kernel's seat has its knowledge.
+    /// The kernel's token.
+    Kernel(KernelView<T>),
+    /// The token of a thread.
+    Thread(ThreadView<T>),
+    /// A thread's token that was joined: the kernel's token has its knowledge.
     Joined,
 }

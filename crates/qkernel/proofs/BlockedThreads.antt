@@ -1,11 +1,15 @@
--- The threads that are blocked, by their records.
-use Rattle.qkernel.proofs.Common.{◌≡◌, ℕ, ◌+◌, ◌<◌, List, [], ◌∷◌, ◌++◌, length, take, get_or, refl, ap, ◌∙◌, filter_map, cons_option, AllByRecursion, option_map, option_to_list, option_map_or, take_at_read, filter_map-append, blocked_thread, state_in, facts_of, Trace, own_open, Ready, number_of, Option, None, Some, IsRoster, Member, threads_of, Facts, filter_map_same, StandsAt, State, facts_in, open_in, members_of, OpenCall, Thread}
+-- The blocked threads, by their records.
+use Rattle.qkernel.proofs.Common.{◌≡◌, ℕ, ◌+◌, ◌<◌, List, [], ◌∷◌, ◌++◌, length, take, get_or, refl, ap, ◌∙◌}
+use Rattle.qkernel.proofs.Common.{filter_map, cons_option, AllByRecursion, option_map, option_to_list, option_map_or}
+use Rattle.qkernel.proofs.Common.{take_at_read, filter_map-append, blocked_thread, state_in, facts_of, Trace, own_open}
+use Rattle.qkernel.proofs.Common.{Ready, number_of, Option, None, Some, IsRoster, Member, threads_of, Facts}
+use Rattle.qkernel.proofs.Common.{filter_map_same, StandsAt, State, facts_in, open_in, members_of, OpenCall, Thread}
 use Rattle.qrules.proofs.Words.Blocked.{blocked_threads_in}
 use Rattle.qkernel.specs.Blocked.{blocked_threads}
 use Rattle.qmodel.specs.declared.open_call.Blocked.{Blocked}
 use Rattle.qkernel.specs.Blocked as told
 
--- what is told of each thread that is blocked, by its record
+-- the list entry of each blocked thread, made from its record
 abbrev pub blocked_by : List Thread → List Blocked
 blocked_by threads = filter_map (λ t. blocked_thread t.member.thread t.open_call) threads
 
@@ -14,23 +18,37 @@ one_told None = refl
 one_told (Some b) = refl
 
 pub blocked_more : (threads : List Thread) (i : ℕ) (d : Thread) → i < length threads
-    → blocked_by (take i threads) ++ option_to_list (blocked_thread (get_or threads i d).member.thread (get_or threads i d).open_call) ≡ blocked_by (take (i + 1) threads)
-blocked_more threads i d within = rw ((take_at_read threads i d within).1, filter_map-append (λ t. blocked_thread t.member.thread t.open_call) (take i threads) (get_or threads i d ∷ []), one_told (blocked_thread (get_or threads i d).member.thread (get_or threads i d).open_call)) refl
+    → blocked_by (take i threads) ++ option_to_list
+    (blocked_thread (get_or threads i d).member.thread (get_or threads i d).open_call) ≡ blocked_by
+    (take (i + 1) threads)
+blocked_more threads i d within =
+    rw (
+      (take_at_read threads i d within).1,
+      filter_map-append (λ t. blocked_thread t.member.thread t.open_call) (take i threads) (get_or threads i d ∷ []),
+      one_told (blocked_thread (get_or threads i d).member.thread (get_or threads i d).open_call),
+    ) refl
 
-same_told : (open_call : ℕ → Option OpenCall) (threads : List Thread) → AllByRecursion (λ x. open_call x.member.thread ≡ x.open_call) threads
+same_told : (open_call : ℕ → Option OpenCall) (threads : List Thread)
+    → AllByRecursion (λ x. open_call x.member.thread ≡ x.open_call) threads
     → blocked_by threads ≡ filter_map (λ u. blocked_thread u (open_call u)) (threads_of (members_of threads))
 same_told open_call [] h = refl
 same_told open_call (t ∷ threads) h = rw (h.0, same_told open_call threads h.1) refl
 
--- ---- what is told by the rules
+-- ---- the list entries that the rules give
 
 module _ (f : Facts) where
   told_same : (u : ℕ) → blocked_thread u (f.open_call u) ≡ told.blocked_thread f u
-  told_same u = elim (f.open_call u) as (λ o. blocked_thread u o ≡ option_map (λ n. record { number = n; thread = u; state = option_map_or state_in o Ready }) (option_map number_of o)) [ None ↦ refl | Some o ↦ refl ]
+  told_same u =
+      elim (f.open_call u)
+      as (λ o. blocked_thread u o ≡ option_map
+      (λ n. record { number = n; thread = u; state = option_map_or state_in o Ready })
+      (option_map number_of o)) [ None ↦ refl | Some o ↦ refl ]
 
   all_told : blocked_threads_in f ≡ blocked_threads f
   all_told = filter_map_same _ _ (threads_of f.roster) told_same
 
-pub blocked_now : (roster : List Member) (s : State) (past : Trace) → IsRoster (members_of s.threads) → StandsAt roster s past
+pub blocked_now : (roster : List Member) (s : State) (past : Trace) → IsRoster (members_of s.threads)
+    → StandsAt roster s past
     → blocked_by s.threads ≡ blocked_threads (facts_of roster past)
-blocked_now roster s past rises stands = same_told (open_in s.threads) s.threads (own_open s.threads rises) ∙ all_told (facts_in s) ∙ ap blocked_threads stands
+blocked_now roster s past rises stands = same_told (open_in s.threads) s.threads (own_open s.threads rises)
+    ∙ all_told (facts_in s) ∙ ap blocked_threads stands

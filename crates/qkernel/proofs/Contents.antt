@@ -1,2 +1,3 @@
--- The threads that wait are threads of the kernel.
-use Rattle.qkernel.proofs.Common.{◌≡◌, ℕ, List, [], ◌∷◌, refl, sym, cond, true, false, eqb, is_some, ◌||◌, true≢false, is_among, threads_of, open_in, members_of, Thread}
+-- Blocked threads are threads of the kernel.
+use Rattle.qkernel.proofs.Common.{◌≡◌, ℕ, List, [], ◌∷◌, refl, sym, cond, true, false, eqb, is_some, ◌||◌, true≢false}
+use Rattle.qkernel.proofs.Common.{is_among, threads_of, open_in, members_of, Thread}

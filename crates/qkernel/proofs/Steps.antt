@@ -1,4 +1,4 @@
--- The steps of a kernel, call by call, by its content alone.
+-- The steps of a kernel, call by call, described only by its content.
 pub mod Common
 pub mod ChannelCreate
 pub mod ConnectAttach

@@ -1,4 +1,4 @@
--- The threads that are blocked, each with its state and its channel.
+-- The blocked threads, each with the number of its open call and its state.
 use Rattle.qrules.specs.Words.{filter_map, option_map, List, Option}
 use Rattle.qrules.specs.Facts.{threads_of, waiting_number, Facts}
 use Rattle.qrules.specs.Rules.Threads.{state_of}
@@ -11,6 +11,6 @@ module _ (f : Facts) where
   blocked_thread t =
       option_map (λ n. record { number = n; thread = t; state = state_of f t }) (waiting_number f t)
 
-  -- the threads that are blocked, in rising number
+  -- the blocked threads, in ascending order of their numbers
   abbrev pub blocked_threads : List Blocked
   blocked_threads = filter_map blocked_thread (threads_of f.roster)

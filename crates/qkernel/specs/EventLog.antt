@@ -4,28 +4,28 @@ use Rattle.qmodel.specs.declared.call.Call.{Call}
 use Rattle.qmodel.specs.declared.call.Completion.{Completion}
 use Rattle.qmodel.specs.Trace.{Event}
 
--- the events, the oldest in front; the calls that are noted but not events yet, each with its thread, the
--- next in front; the endings of the next call; and the numbers of further calls and endings for which there
--- is room
+-- events has the oldest event first, and noted the next call first, each call with its thread. endings are
+-- the completions of the next call. The rooms are the numbers of further calls and completions for which
+-- there is room.
 pub record Logged : Type 0 where
   pub events : List Event
   pub noted : List (ℕ × Call)
-  pub endings : List Completion
+  pub completions : List Completion
   pub call_room : ℕ
   pub completion_room : ℕ
 
--- the log after the first of its noted calls, which are these, became an event
+-- the log after the first of these noted calls became an event
 abbrev pub with_first : Logged → List (ℕ × Call) → Logged
 with_first l [] = l
 with_first l (q ∷ noted) =
     record {
-      events = l.events ++ record { thread = q.0; call = q.1; endings = l.endings } ∷ [];
+      events = l.events ++ record { thread = q.0; call = q.1; completions = l.completions } ∷ [];
       noted = noted;
-      endings = [];
+      completions = [];
       call_room = l.call_room;
       completion_room = l.completion_room;
     }
 
--- the log after the next of its noted calls became an event, with the endings that were added
+-- the log after the next of its noted calls became an event, with the completions that were added
 abbrev pub with_next : Logged → Logged
 with_next l = with_first l l.noted

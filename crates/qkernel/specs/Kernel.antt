@@ -5,11 +5,11 @@ use Rattle.qrules.specs.Words.{length, Bool, Connection, List, ℕ}
 use Rattle.qrules.specs.Facts.{Facts}
 use Rattle.qtables.specs.Entries.{entry_at, IsRising}
 use Rattle.qtables.specs.Members.{IsRoster}
-use Rattle.qstate.specs.Channel.{ids_of}
-use Rattle.qstate.specs.Kept.{channel_in, pending_in, thread_priority, members_of}
-use Rattle.qstate.specs.Thread.{open_in}
-use Rattle.qstate.specs.declared.channel.Channel.{Channel}
-use Rattle.qstate.specs.declared.thread.Thread.{Thread}
+use Rattle.qkernel_state.specs.Channel.{ids_of}
+use Rattle.qkernel_state.specs.Kept.{channel_in, pending_in, thread_priority, members_of}
+use Rattle.qkernel_state.specs.Thread.{open_in}
+use Rattle.qkernel_state.specs.declared.channel.Channel.{Channel}
+use Rattle.qkernel_state.specs.declared.thread.Thread.{Thread}
 
 -- the number of calls made, whether it is shut down, the threads, the open channels and the live connections
 pub record State : Type 0 where
@@ -19,7 +19,7 @@ pub record State : Type 0 where
   pub channels : List (ℕ × Channel)
   pub connections : List (ℕ × Connection)
 
--- a kernel's content as facts: its open calls are kept with their threads
+-- the facts in a kernel's content; it keeps open calls with their threads
 abbrev pub facts_in : State → Facts
 facts_in s = record {
   roster = members_of s.threads;
@@ -34,8 +34,8 @@ facts_in s = record {
   priority = thread_priority s.threads;
 }
 
--- there are at most 64 threads, in rising number; the ids of connections rise, from 1 on; and no channel,
--- connection or item has the number of a later call
+-- there are at most 64 threads, in ascending order of their numbers. The ids of connections are in ascending
+-- order and at least 1. No channel, connection or item has a number above made.
 pub record IsSound (s : State) : Type 0 where
   pub few : length s.threads ≤ 64
   pub roster : IsRoster (members_of s.threads)

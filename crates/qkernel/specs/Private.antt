@@ -1,3 +1,4 @@
--- Words of the kernel's inner functions and of the proofs. No public function's contract cites one of them.
+-- Definitions for the kernel's private functions and for the proofs. No contract of a public function uses
+-- them.
 pub mod Steps
 pub mod Caller

@@ -1,27 +1,31 @@
 //! A log of events.
 
-ghost use Rattle.std.specs.Prelude.{◌≡◌, ◌+◌, ◌-◌, ◌<◌, ◌≤◌, ◌++◌, [], ◌∷◌, length, IfOk, IsOk, OnOk, vec_len, vec_capacity};
+ghost use Rattle.std.specs.Prelude.{◌≡◌, ◌+◌, ◌-◌, ◌<◌, ◌≤◌, ◌++◌, [], ◌∷◌, length, IfOk, IsOk, OnOk};
+ghost use Rattle.std.specs.Prelude.{vec_len, vec_capacity};
 ghost use Rattle.arrayvec.specs.ArrayVec.{array_vec_len};
 ghost use Rattle.qkernel.specs.EventLog.{with_next};
 
 use crate::trace::{Entry, Trace};
 use qbase::ids::ThreadNo;
+use qkernel_state::completions::Completions;
 use qmodel::call::{Call, Completion};
-use qstate::endings::Endings;
 use std::alloc::{AllocError, Global};
 use std::marker::Model;
 
-/// The events of a kernel in order. A call is noted before it is made; its endings are added; and `event` then makes an
-/// event of both. Only `with_room` and `reserve` take memory. Contracts see the events, the noted calls, the endings of
-/// the next call, and the numbers of further calls and endings for which there is room.
+/// The events of a kernel, in order. A call is noted before it is made, and its completions are added after
+/// it was made. Then `event` turns the call and its completions into an event. Only `with_room` and `reserve`
+/// take memory.
+///
+/// Contracts see the events, the noted calls, the completions of the next call, and the numbers of further
+/// calls and completions for which there is room.
 #[derive(Debug, Drop)]
 pub struct EventLog {
-    // The events, followed by the calls that are noted.
+    // The entries of the events, followed by the entries of the noted calls.
     entries: Vec<Entry>,
-    endings: Vec<Completion>,
+    completions: Vec<Completion>,
     // The number of entries that are events.
     made: usize,
-    // The index at which the endings of the next call begin.
+    // The index at which the completions of the next call begin.
     start: usize,
 }
 
@@ -34,25 +38,27 @@ impl Model for EventLog {
 
     ghost use Rattle.qkernel.specs.Kept.{logged_by, IsKept};
 
-    ghost view = { λ l. logged_by l.entries.items l.endings.items l.made l.start (vec_capacity l.entries - vec_len l.entries) (vec_capacity l.endings - vec_len l.endings) };
+    ghost view = { λ l. (
+        logged_by l.entries.items l.completions.items l.made l.start
+        (vec_capacity l.entries - vec_len l.entries) (vec_capacity l.completions - vec_len l.completions)) };
 
-    ghost invariant = { λ l. IsKept l.entries.items l.endings.items l.made l.start };
+    ghost invariant = { λ l. IsKept l.entries.items l.completions.items l.made l.start };
 }
 
-/// Moves the endings of one event to the end of the list, which has room for them.
-fn append(all: &mut Vec<Completion>, endings: &mut Endings)
-    requires { vec_len all.old + array_vec_len endings.old ≤ vec_capacity all.old }
-    ensures items { all.new.items ≡ all.old.items ++ endings.old.items }
+/// Moves the completions of one event to the end of the list, which must have room for them.
+fn append(all: &mut Vec<Completion>, completions: &mut Completions)
+    requires { vec_len all.old + array_vec_len completions.old ≤ vec_capacity all.old }
+    ensures items { all.new.items ≡ all.old.items ++ completions.old.items }
     ensures capacity { vec_capacity all.new ≡ vec_capacity all.old }
-    ensures emptied { endings.new.items ≡ [] }
+    ensures emptied { completions.new.items ≡ [] }
 {
-    endings.as_mut_slice().reverse();
-    while let Some(completion) = endings.pop() {
+    completions.as_mut_slice().reverse();
+    while let Some(completion) = completions.pop() {
         all.push_reserved(completion);
     }
 }
 
-/// Records the range of an entry's endings: from `start` up to, but not including, `end`.
+/// Records the range of an entry's completions: from `start` up to, but not including, `end`.
 fn place(entry: &mut Entry, start: usize, end: usize)
     ensures { entry.new ≡ record entry.old { start = start; end = end } }
 {
@@ -61,36 +67,48 @@ fn place(entry: &mut Entry, start: usize, end: usize)
 }
 
 impl EventLog {
-    /// Makes an empty log with room for these numbers of calls and endings.
-    pub fn with_room(alloc: Global, calls: usize, endings: usize) -> Result<EventLog, AllocError>
-        ensures empty { IfOk result (λ log. (log.events ≡ []) × (log.noted ≡ []) × (log.endings ≡ [])) }
-        ensures room { IfOk result (λ log. (log.call_room ≡ calls) × (log.completion_room ≡ endings)) }
+    /// Makes an empty log with room for these numbers of calls and completions.
+    pub fn with_room(
+        alloc: Global,
+        calls: usize,
+        completions: usize,
+    ) -> Result<EventLog, AllocError>
+        ensures empty { IfOk result (λ log. (log.events ≡ []) × (log.noted ≡ []) × (log.completions ≡ [])) }
+        ensures room { IfOk result (λ log. (log.call_room ≡ calls) × (log.completion_room ≡ completions)) }
     {
         let entries = Vec::with_capacity(alloc, calls)?;
-        let endings = Vec::with_capacity(alloc, endings)?;
+        let completions = Vec::with_capacity(alloc, completions)?;
         Ok(EventLog {
             entries,
-            endings,
+            completions,
             made: 0,
             start: 0,
         })
     }
 
-    /// Makes room for these numbers of further calls and endings.
-    pub fn reserve(&mut self, calls: usize, endings: usize) -> Result<(), AllocError>
-        ensures same { self.new ≡ record self.old { call_room = self.new.call_room; completion_room = self.new.completion_room } }
-        ensures kept { (self.old.call_room ≤ self.new.call_room) × (self.old.completion_room ≤ self.new.completion_room) }
-        ensures room { OnOk result ((calls ≤ self.new.call_room) × (endings ≤ self.new.completion_room)) }
-        ensures succeeds { (calls ≤ self.old.call_room) × (endings ≤ self.old.completion_room) → IsOk result }
+    /// Makes room for these numbers of further calls and completions.
+    pub fn reserve(&mut self, calls: usize, completions: usize) -> Result<(), AllocError>
+        ensures same { self.new ≡ record self.old {
+          call_room = self.new.call_room;
+          completion_room = self.new.completion_room;
+        } }
+        ensures kept { (self.old.call_room ≤ self.new.call_room)
+            × (self.old.completion_room ≤ self.new.completion_room) }
+        ensures room { OnOk result ((calls ≤ self.new.call_room) × (completions ≤ self.new.completion_room)) }
+        ensures succeeds { (calls ≤ self.old.call_room) × (completions ≤ self.old.completion_room)
+            → IsOk result }
     {
         self.entries.reserve(calls)?;
-        self.endings.reserve(endings)
+        self.completions.reserve(completions)
     }
 
-    /// Notes a call that is to be made after all calls noted before. There must be room for it.
+    /// Notes a call, which is made after all calls that were noted before. There must be room for it.
     pub fn note(&mut self, thread: ThreadNo, call: Call)
         requires { 0 < self.old.call_room }
-        ensures { self.new ≡ record self.old { noted = self.old.noted ++ (thread, call) ∷ []; call_room = self.old.call_room - 1 } }
+        ensures { self.new ≡ record self.old {
+          noted = self.old.noted ++ (thread, call) ∷ [];
+          call_room = self.old.call_room - 1;
+        } }
     {
         self.entries.push_reserved(Entry {
             thread,
@@ -100,29 +118,36 @@ impl EventLog {
         });
     }
 
-    /// Adds a completion to those of the next call. There must be room for it.
-    pub fn push_ending(&mut self, completion: Completion)
+    /// Adds a completion to the next call. There must be room for it.
+    pub fn push_completion(&mut self, completion: Completion)
         requires { 0 < self.old.completion_room }
-        ensures { self.new ≡ record self.old { endings = self.old.endings ++ completion ∷ []; completion_room = self.old.completion_room - 1 } }
+        ensures { self.new ≡ record self.old {
+          completions = self.old.completions ++ completion ∷ [];
+          completion_room = self.old.completion_room - 1;
+        } }
     {
-        self.endings.push_reserved(completion);
+        self.completions.push_reserved(completion);
     }
 
-    /// Adds endings to those of the next call, and empties the list that they are in. There must be room for them.
-    pub fn append(&mut self, endings: &mut Endings)
-        requires { length endings.old.items ≤ self.old.completion_room }
-        ensures logged { self.new ≡ record self.old { endings = self.old.endings ++ endings.old.items; completion_room = self.old.completion_room - length endings.old.items } }
-        ensures emptied { endings.new.items ≡ [] }
+    /// Adds completions to the next call, and empties the list that they come from. There must be room for
+    /// them.
+    pub fn append(&mut self, completions: &mut Completions)
+        requires { length completions.old.items ≤ self.old.completion_room }
+        ensures logged { self.new ≡ record self.old {
+          completions = self.old.completions ++ completions.old.items;
+          completion_room = self.old.completion_room - length completions.old.items;
+        } }
+        ensures emptied { completions.new.items ≡ [] }
     {
-        append(&mut self.endings, endings);
+        append(&mut self.completions, completions);
     }
 
-    /// Makes an event of the next call, once it was made, and of the endings that were added.
+    /// Turns the next call and the completions that were added into an event. The call must have been made.
     pub fn event(&mut self)
         requires { 0 < length self.old.noted }
         ensures { self.new ≡ with_next self.old }
     {
-        let end = self.endings.len();
+        let end = self.completions.len();
         place(&mut self.entries[self.made], self.start, end);
         self.made += 1;
         self.start = end;
@@ -135,16 +160,17 @@ impl EventLog {
         self.made
     }
 
-    /// Returns the trace of the events; the first event has the number `first`. No noted call may be left.
+    /// Returns the events as the trace of a run, in which the first event has the number `first`. No noted
+    /// call may be left.
     pub fn into_trace(self, first: u64) -> Trace
         requires { self.noted ≡ [] }
         ensures { result ≡ record { first = first; events = self.events } }
     {
         let EventLog {
             entries,
-            endings,
+            completions,
             ..
         } = self;
-        Trace::of(first, entries, endings)
+        Trace::of(first, entries, completions)
     }
 }

@@ -1,13 +1,14 @@
-//! The kernel.
+//! The kernel: it makes the calls of its threads, one at a time.
 
-ghost use Rattle.std.specs.Prelude.{◌≡◌, ◌+◌, ◌<◌, ◌≤◌, ◌^◌, ◌↔◌, [], length, None, Some, is_some, true, false, IsTrue, if◌then◌else◌, IfOk, IfErr, IfSome, OnOk};
+ghost use Rattle.std.specs.Prelude.{◌≡◌, ◌+◌, ◌<◌, ◌≤◌, ◌^◌, ◌↔◌, [], length, None, Some, is_some, true};
+ghost use Rattle.std.specs.Prelude.{false, IsTrue, if◌then◌else◌, IfOk, IfErr, IfSome, OnOk};
 ghost use Rattle.qtables.specs.Members.{member_at};
-ghost use Rattle.qstate.specs.Thread.{open_in, blocked_count};
-ghost use Rattle.qstate.specs.Threads.{IsSeatIn};
-ghost use Rattle.qstate.specs.Kept.{members_of};
+ghost use Rattle.qkernel_state.specs.Thread.{open_in, blocked_count};
+ghost use Rattle.qkernel_state.specs.Threads.{IsSeatIn};
+ghost use Rattle.qkernel_state.specs.Kept.{members_of};
 
 mod blocked;
-mod caller;
+mod call_context;
 mod channel_create;
 mod channel_destroy;
 mod connect_attach;
@@ -26,18 +27,18 @@ mod state;
 mod unblock;
 
 use arrayvec::ArrayVec;
-use caller::Caller;
+use call_context::CallContext;
 use qbase::bytes::Bytes;
 use qbase::errno::Errno;
 use qbase::ids::ThreadNo;
+use qkernel_state::channel::Channel;
+use qkernel_state::completions::Completions;
+use qkernel_state::objects::Objects;
+use qkernel_state::thread::Thread;
+use qkernel_state::thread_ref::ThreadRef;
+use qkernel_state::threads::Threads;
 use qmodel::call::Call;
 use qqueue::item::Kind;
-use qstate::channel::Channel;
-use qstate::endings::Endings;
-use qstate::objects::Objects;
-use qstate::seat::Seat;
-use qstate::thread::Thread;
-use qstate::threads::Threads;
 use qtables::channels::Channels;
 use qtables::connections::Connections;
 use qtables::roster::Roster;
@@ -47,9 +48,9 @@ use std::marker::Model;
 /// The number of calls that a kernel can make.
 pub const CALL_LIMIT: u64 = 1 << 40;
 
-/// A kernel: its threads, its channels and its connections. Contracts see its content as a record of lists; they
-/// describe the answers to calls by the list of all past calls.
-/// `simulator.rt` of `crates/qcalls` shows how one is made and used.
+/// A kernel: its threads, its channels and its connections. Contracts see its content as a record of lists,
+/// and describe the completions of calls by the history of events.
+/// `simulator.rt` of `crates/balsaeuchre_calls` shows how one is made and used.
 #[derive(Drop)]
 pub struct Kernel {
     alloc: Global,
@@ -63,9 +64,23 @@ impl Model for Kernel {
 
     ghost Value = { State };
 
-    ghost view = { λ k. record { made = k.made; down = k.down; threads = k.objects.threads; channels = k.objects.channels; connections = k.objects.connections } };
+    ghost view = { λ k. record {
+      made = k.made;
+      down = k.down;
+      threads = k.objects.threads;
+      channels = k.objects.channels;
+      connections = k.objects.connections;
+    } };
 
-    ghost invariant = { λ k. IsSound (record { made = k.made; down = k.down; threads = k.objects.threads; channels = k.objects.channels; connections = k.objects.connections }) };
+    ghost invariant = { λ k. (
+        IsSound
+        (record {
+          made = k.made;
+          down = k.down;
+          threads = k.objects.threads;
+          channels = k.objects.channels;
+          connections = k.objects.connections;
+        })) };
 }
 
 impl Kernel {
@@ -74,9 +89,9 @@ impl Kernel {
     ghost use Rattle.qkernel.specs.Kernel.{IsSound};
     ghost use Rattle.qkernel.specs.Private.Caller.{IsCallerIn, MayCall, MakesOrRefuses};
 
-    /// Makes a kernel without channels, in which each thread of the roster is ready at its initial priority. The room
-    /// for thread records and open calls is made here; `NoMemory` is the only error.
-    /// `first_message.rt` of `crates/balsaeuchre_uses` begins with it.
+    /// Makes a kernel without channels, in which each thread of the roster is ready at its initial priority.
+    /// Takes the memory for thread records and open calls here. The only error is `NoMemory`.
+    /// `first_message.rt` of `crates/balsaeuchre_examples` begins with it.
     pub fn new(alloc: Global, roster: &Roster) -> Result<Kernel, Errno>
         ensures stands { IfOk result (λ kernel. StandsAt roster.now kernel []) }
         ensures error { IfErr result (λ e. e ≡ Errno.NoMemory) }
@@ -97,11 +112,14 @@ impl Kernel {
         })
     }
 
-    /// Returns the error that refuses every call of the thread at a seat: `Down` if the kernel is shut down, else
-    /// `Busy` if the thread is blocked; `None` otherwise.
-    fn refusal(&self, seat: &Seat) -> Option<Errno>
+    /// Returns the error with which every call of the thread at this index fails: `Down` if the kernel is
+    /// shut down, and otherwise `Busy` if the thread is blocked. Returns `None` if the thread may make a
+    /// call.
+    fn refusal(&self, seat: &ThreadRef) -> Option<Errno>
         requires { IsSeatIn self.now.threads seat.now }
-        ensures { result ≡ (if self.now.down then Some Errno.Down else (if is_some (open_in self.now.threads seat.now.thread) then Some Errno.Busy else None)) }
+        ensures { result
+            ≡ (if self.now.down then Some Errno.Down else
+            (if is_some (open_in self.now.threads seat.now.thread) then Some Errno.Busy else None)) }
     {
         if self.down {
             Some(Errno::Down)
@@ -112,15 +130,15 @@ impl Kernel {
         }
     }
 
-    /// Returns the thread at a seat as the caller of the next call.
-    fn caller_at(&self, seat: &Seat) -> Caller
+    /// Returns the thread at this index as the caller of the next call.
+    fn caller_at(&self, seat: &ThreadRef) -> CallContext
         requires limit { self.now.made < 2 ^ 40 }
         requires seat { IsSeatIn self.now.threads seat.now }
         ensures made { result.made ≡ self.now.made }
         ensures seat { result.seat ≡ seat.now }
         ensures caller { IsCallerIn self.now.threads result }
     {
-        Caller {
+        CallContext {
             made: self.made,
             seat: *seat,
             process: self.objects.threads.record(seat).member.process,
@@ -128,51 +146,56 @@ impl Kernel {
         }
     }
 
-    /// Makes a call by its own method, after it was counted and `refusal` found no error. An `Err` is the error of a
-    /// refusal.
+    /// Makes a call by its own method, after `refusal` found no error and the call was counted. On an `Err`
+    /// the call fails with this error, and its completion isn't in the list yet.
     #[inline(always)]
-    fn make(&mut self, caller: &Caller, call: Call, endings: &mut Endings) -> Result<(), Errno>
-        requires { MayCall self.old caller.now endings.old.items }
-        ensures { MakesOrRefuses self.old caller.now call result endings.new.items self.new }
+    fn make(
+        &mut self,
+        caller: &CallContext,
+        call: Call,
+        completions: &mut Completions,
+    ) -> Result<(), Errno>
+        requires { MayCall self.old caller.now completions.old.items }
+        ensures { MakesOrRefuses self.old caller.now call result completions.new.items self.new }
     {
         match call {
-            Call::ChannelCreate(flags) => self.channel_create(caller, flags, endings),
-            Call::ConnectAttach(chid) => self.connect_attach(caller, chid, endings),
+            Call::ChannelCreate(flags) => self.channel_create(caller, flags, completions),
+            Call::ConnectAttach(chid) => self.connect_attach(caller, chid, completions),
             Call::Send {
                 coid,
                 message,
                 reply_buffer,
             } => {
-                self.send(caller, coid, message, reply_buffer, endings);
+                self.send(caller, coid, message, reply_buffer, completions);
                 Ok(())
             }
             Call::Receive { chid, buffer } => {
-                self.receive(caller, chid, Kind::Any, buffer, endings);
+                self.receive(caller, chid, Kind::Any, buffer, completions);
                 Ok(())
             }
             Call::Reply {
                 rcvid,
                 status,
                 bytes,
-            } => self.reply(caller, rcvid, status, bytes.as_slice(), endings),
-            Call::Error { rcvid, code } => self.error(caller, rcvid, code, endings),
+            } => self.reply(caller, rcvid, status, bytes.as_slice(), completions),
+            Call::Error { rcvid, code } => self.error(caller, rcvid, code, completions),
             Call::Read {
                 rcvid,
                 offset,
                 buffer,
             } => {
-                self.read(caller, rcvid, offset, buffer, endings);
+                self.read(caller, rcvid, offset, buffer, completions);
                 Ok(())
             }
             Call::Write {
                 rcvid,
                 offset,
                 bytes,
-            } => self.write(caller, rcvid, offset, bytes.as_slice(), endings),
-            Call::Info(rcvid) => self.info(caller, rcvid, endings),
+            } => self.write(caller, rcvid, offset, bytes.as_slice(), completions),
+            Call::Info(rcvid) => self.info(caller, rcvid, completions),
             Call::ReceivePulse(chid) => {
                 let buffer = Bytes::new(self.alloc);
-                self.receive(caller, chid, Kind::PulseOnly, buffer, endings);
+                self.receive(caller, chid, Kind::PulseOnly, buffer, completions);
                 Ok(())
             }
             Call::Pulse {
@@ -180,46 +203,46 @@ impl Kernel {
                 priority,
                 code,
                 value,
-            } => self.pulse(caller, coid, priority, code, value, endings),
+            } => self.pulse(caller, coid, priority, code, value, completions),
             Call::PrioritySet {
                 thread: target,
                 priority,
-            } => self.priority_set(caller, target, priority, endings),
-            Call::State(target) => self.state(caller, target, endings),
-            Call::ChannelDestroy(chid) => self.channel_destroy(caller, chid, endings),
+            } => self.priority_set(caller, target, priority, completions),
+            Call::State(target) => self.state(caller, target, completions),
+            Call::ChannelDestroy(chid) => self.channel_destroy(caller, chid, completions),
             Call::Shutdown => {
-                self.shutdown(caller, endings);
+                self.shutdown(caller, completions);
                 Ok(())
             }
-            Call::Unblock(target) => self.unblock(caller, target, endings),
-            Call::ConnectDetach(coid) => self.connect_detach(caller, coid, endings),
+            Call::Unblock(target) => self.unblock(caller, target, completions),
+            Call::ConnectDetach(coid) => self.connect_detach(caller, coid, completions),
         }
     }
 
-    /// Counts a call of the thread at a seat, and then makes it, or refuses it if the kernel is shut down or the thread
-    /// is blocked.
-    fn perform(&mut self, seat: &Seat, call: Call, endings: &mut Endings)
+    /// Counts a call of the thread at this index and makes it. The call fails if the kernel is shut down or
+    /// the thread is blocked.
+    fn perform(&mut self, seat: &ThreadRef, call: Call, completions: &mut Completions)
         requires limit { self.old.made < 2 ^ 40 }
         requires seat { IsSeatIn self.old.threads seat.now }
-        requires none { endings.old.items ≡ [] }
+        requires none { completions.old.items ≡ [] }
         ensures sound { IsSound self.old }
-        ensures steps { Steps self.old seat.now.thread call endings.new.items self.new }
+        ensures steps { Steps self.old seat.now.thread call completions.new.items self.new }
     {
         let refusal = self.refusal(seat);
         let caller = self.caller_at(seat);
         self.made += 1;
         if let Some(errno) = refusal {
-            return caller.refuse(endings, errno, call.into_buffer(self.alloc));
+            return caller.refuse(completions, errno, call.into_buffer(self.alloc));
         }
-        if let Err(errno) = self.make(&caller, call, endings) {
-            caller.refuse(endings, errno, Bytes::new(self.alloc));
+        if let Err(errno) = self.make(&caller, call, completions) {
+            caller.refuse(completions, errno, Bytes::new(self.alloc));
         }
     }
 
-    /// Returns the seat of a thread, by which `call_at` makes its calls without a search; `None` if the thread isn't in
-    /// the roster. A seat is valid as long as the kernel.
-    /// The locked kernel's ports keep theirs.
-    pub fn seat(&self, thread: ThreadNo) -> Option<Seat>
+    /// Returns the index of a thread, or `None` if the thread isn't in the roster. With it, `call_at` makes
+    /// the thread's calls without a search. It is valid as long as the kernel.
+    /// The ports of the locked kernel keep the indices of their threads.
+    pub fn seat(&self, thread: ThreadNo) -> Option<ThreadRef>
         ensures seat { IfSome result (λ seat. IsSeatIn self.now.threads seat) }
         ensures thread { IfSome result (λ seat. seat.thread ≡ thread) }
         ensures known { is_some result ≡ is_some (member_at (members_of self.now.threads) thread) }
@@ -227,8 +250,8 @@ impl Kernel {
         self.objects.threads.seat(thread)
     }
 
-    /// Returns the seat of a thread that is in the roster.
-    fn known_seat(&self, thread: ThreadNo) -> Seat
+    /// Returns the index of a thread that is in the roster.
+    fn known_seat(&self, thread: ThreadNo) -> ThreadRef
         requires { is_some (member_at (members_of self.now.threads) thread) ≡ true }
         ensures seat { IsSeatIn self.now.threads result }
         ensures thread { result.thread ≡ thread }
@@ -239,80 +262,90 @@ impl Kernel {
         }
     }
 
-    /// Makes one call of the thread at a seat, and puts its endings, in rising thread number, into the list that it is
-    /// given, which must be empty. An `Err` is no event: it gives the call back and changes nothing. `Exhausted`, after
-    /// 2^40 calls, is the only error.
+    /// Makes one call of the thread at this index. Puts the completions of its event, in ascending order of
+    /// thread number, into the list, which must be empty. An `Err` returns the call: there is no event, and
+    /// nothing changes. The only error is `Exhausted`, after 2^40 calls.
     pub fn call_at(
         &mut self,
-        seat: &Seat,
+        seat: &ThreadRef,
         call: Call,
-        endings: &mut Endings,
+        completions: &mut Completions,
     ) -> Result<(), (Errno, Call)>
         requires seat { IsSeatIn self.old.threads seat.now }
-        requires none { endings.old.items ≡ [] }
-        ensures event { OnOk result (AnswersAtTraces self.old seat.now.thread call endings.new.items self.new) }
-        ensures refused { OnOk result (LeavesIfRefused self.old seat.now.thread call endings.new.items self.new) }
+        requires none { completions.old.items ≡ [] }
+        ensures event { OnOk result
+            (AnswersAtTraces self.old seat.now.thread call completions.new.items self.new) }
+        ensures refused { OnOk result
+            (LeavesIfRefused self.old seat.now.thread call completions.new.items self.new) }
         ensures roster { members_of self.new.threads ≡ members_of self.old.threads }
         ensures ok { OnOk result ((self.old.made < 2 ^ 40) × (self.new.made ≡ self.old.made + 1)) }
 
-        // An event ends at most its own call and calls that were open.
-        ensures room { OnOk result (length endings.new.items + blocked_count self.new.threads ≤ blocked_count self.old.threads + 1) }
+        // An event completes at most its own call and calls that were open.
+        ensures room { OnOk result
+            (length completions.new.items + blocked_count self.new.threads
+            ≤ blocked_count self.old.threads + 1) }
 
-        // The error, and that it changes nothing.
-        ensures unchanged { IfErr result (λ refused. (self.new ≡ self.old) × (refused.1 ≡ call) × (endings.new.items ≡ [])) }
+        // On an error nothing changes.
+        ensures unchanged { IfErr result
+            (λ refused. (self.new ≡ self.old) × (refused.1 ≡ call) × (completions.new.items ≡ [])) }
         ensures error { IfErr result (λ refused. (2 ^ 40 ≤ self.old.made) × (refused.0 ≡ Errno.Exhausted)) }
     {
         if self.made >= CALL_LIMIT {
             return Err((Errno::Exhausted, call));
         }
-        self.perform(seat, call, endings);
+        self.perform(seat, call, completions);
         Ok(())
     }
 
-    /// Makes one call of a thread of the roster, and puts its endings, in rising thread number, into the list that it
-    /// is given, which must be empty. It suits a loop over many calls, which can use one list again; `dispatch` returns
-    /// a list of its own.
-    /// `run` uses it so.
-    pub fn step(&mut self, thread: ThreadNo, call: Call, endings: &mut Endings)
+    /// Makes one call of a thread of the roster. Puts the completions of its event, in ascending order of
+    /// thread number, into the list, which must be empty. A loop over many calls can use one list again and
+    /// again; `dispatch` returns a new list for each call.
+    /// `run` has such a loop.
+    pub fn step(&mut self, thread: ThreadNo, call: Call, completions: &mut Completions)
         requires known { is_some (member_at (members_of self.old.threads) thread) ≡ true }
         requires limit { self.old.made < 2 ^ 40 }
-        requires none { endings.old.items ≡ [] }
-        ensures event { AnswersAtTraces self.old thread call endings.new.items self.new }
+        requires none { completions.old.items ≡ [] }
+        ensures event { AnswersAtTraces self.old thread call completions.new.items self.new }
         ensures roster { members_of self.new.threads ≡ members_of self.old.threads }
         ensures made { self.new.made ≡ self.old.made + 1 }
-        ensures refused { LeavesIfRefused self.old thread call endings.new.items self.new }
+        ensures refused { LeavesIfRefused self.old thread call completions.new.items self.new }
 
-        // An event ends at most its own call and calls that were open.
-        ensures room { length endings.new.items + blocked_count self.new.threads ≤ blocked_count self.old.threads + 1 }
+        // An event completes at most its own call and calls that were open.
+        ensures room { length completions.new.items + blocked_count self.new.threads
+            ≤ blocked_count self.old.threads + 1 }
     {
         let seat = self.known_seat(thread);
-        self.perform(&seat, call, endings);
+        self.perform(&seat, call, completions);
     }
 
-    /// Makes one call. An `Ok` is an event, whose number is one more than that of the last event, and holds its endings
-    /// in rising thread number. An `Err` is no event: it gives the call back and changes nothing. The errors are
-    /// `NoThread` if the thread isn't in the roster, and else `Exhausted` after 2^40 calls.
+    /// Makes one call. An `Ok` has the completions of its event, in ascending order of thread number. The
+    /// event's number is one more than the last event's number. An `Err` returns the call: there is no event,
+    /// and nothing changes. The error is `NoThread` if the thread isn't in the roster, and otherwise
+    /// `Exhausted`, after 2^40 calls.
     /// `dispatching.rt.txt` of `tests/unproved/kernel_tests` uses it.
-    pub fn dispatch(&mut self, thread: ThreadNo, call: Call) -> Result<Endings, (Errno, Call)>
-        ensures event { IfOk result (λ endings. AnswersAtTraces self.old thread call endings.items self.new) }
-        ensures refused { IfOk result (λ endings. LeavesIfRefused self.old thread call endings.items self.new) }
+    pub fn dispatch(&mut self, thread: ThreadNo, call: Call) -> Result<Completions, (Errno, Call)>
+        ensures event { IfOk result
+            (λ completions. AnswersAtTraces self.old thread call completions.items self.new) }
+        ensures refused { IfOk result
+            (λ completions. LeavesIfRefused self.old thread call completions.items self.new) }
         ensures roster { members_of self.new.threads ≡ members_of self.old.threads }
-        ensures ok { OnOk result ((is_some (member_at (members_of self.old.threads) thread) ≡ true) × (self.old.made < 2 ^ 40) × (self.new.made ≡ self.old.made + 1)) }
+        ensures ok { OnOk result ((is_some (member_at (members_of self.old.threads) thread) ≡ true)
+            × (self.old.made < 2 ^ 40) × (self.new.made ≡ self.old.made + 1)) }
 
-        // The error, and that it changes nothing.
+        // On an error nothing changes.
         ensures unchanged { IfErr result (λ refused. (self.new ≡ self.old) × (refused.1 ≡ call)) }
         ensures error { IfErr result (λ refused. DispatchError self.old thread refused.0) }
     {
         let Some(seat) = self.seat(thread) else {
             return Err((Errno::NoThread, call));
         };
-        let mut endings: Endings = ArrayVec::new_in(self.alloc);
-        self.call_at(&seat, call, &mut endings)?;
-        Ok(endings)
+        let mut completions: Completions = ArrayVec::new_in(self.alloc);
+        self.call_at(&seat, call, &mut completions)?;
+        Ok(completions)
     }
 
     /// Returns whether the thread is in the roster.
-    /// `run` asks it before it makes any call.
+    /// `run` checks the threads of all calls with it before it makes any call.
     pub fn knows(&self, thread: ThreadNo) -> bool
         ensures { result ≡ is_some (member_at (members_of self.now.threads) thread) }
     {
@@ -330,22 +363,23 @@ impl Kernel {
         self.made
     }
 
-    /// Returns whether the kernel is shut down: every further call is refused with `Down`.
-    /// `shutdown.rt` of `crates/balsaeuchre_uses` shows a call after it.
+    /// Returns whether the kernel is shut down. Then every further call fails with `Down`.
+    /// `shutdown.rt` of `crates/balsaeuchre_examples` shows a call after it.
     pub fn is_down(&self) -> bool
         ensures { result ≡ self.now.down }
     {
         self.down
     }
 
-    /// Returns the records of the threads, in rising thread number, each with the call that the thread is blocked in.
+    /// Returns the records of the threads, in ascending order of thread number, each with the call that the
+    /// thread is blocked in.
     pub fn threads(&self) -> &[Thread]
         ensures { result.now ≡ self.now.threads }
     {
         self.objects.threads.records()
     }
 
-    /// Returns the open channels, with the messages and pulses that wait on each.
+    /// Returns the open channels, each with its queued messages and pulses.
     pub fn channels(&self) -> &Channels<Channel>
         ensures { result.now ≡ self.now.channels }
     {

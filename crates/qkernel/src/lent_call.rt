@@ -2,7 +2,7 @@
 
 use qbase::ids::ReceiveId;
 
-/// A call that never blocks, so that its bytes need not be the kernel's own: it borrows them. `Kernel::call_lent_at`
+/// A call that borrows its bytes. It never blocks, so the kernel needn't own them. `Kernel::call_lent_at`
 /// makes it, and copies the bytes only into the sender's reply buffer.
 #[derive(Clone, Copy, Debug)]
 pub enum LentCall<'a> {

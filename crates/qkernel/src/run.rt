@@ -1,11 +1,12 @@
 //! A run of many calls.
 
-ghost use Rattle.std.specs.Prelude.{◌≡◌, ◌+◌, ◌<◌, ◌≤◌, ◌^◌, [], length, map, true, IfOk, IfErr, OnOk, OnErr, vec_len};
+ghost use Rattle.std.specs.Prelude.{◌≡◌, ◌+◌, ◌<◌, ◌≤◌, ◌^◌, [], length, map, true, IfOk, IfErr, OnOk, OnErr};
+ghost use Rattle.std.specs.Prelude.{vec_len};
 ghost use Rattle.std.specs.List.{AllByRecursion};
 ghost use Rattle.qkernel.specs.Run.{Headline, RunsAtTraces, AllKnown, RunError};
 ghost use Rattle.qrules.specs.Lawful.{event_call};
-ghost use Rattle.qstate.specs.Thread.{blocked_count};
-ghost use Rattle.qstate.specs.Kept.{members_of};
+ghost use Rattle.qkernel_state.specs.Thread.{blocked_count};
+ghost use Rattle.qkernel_state.specs.Kept.{members_of};
 
 use crate::event_log::EventLog;
 use crate::kernel::{CALL_LIMIT, Kernel};
@@ -13,15 +14,15 @@ use crate::trace::Trace;
 use arrayvec::ArrayVec;
 use qbase::errno::Errno;
 use qbase::ids::ThreadNo;
+use qkernel_state::completions::Completions;
 use qmodel::call::Call;
-use qstate::endings::Endings;
 use qtables::roster::THREAD_LIMIT;
 use std::alloc::{AllocError, Global};
 
-/// Makes a log in which a copy of each call is noted, with room for all their endings.
+/// Makes a log that notes a copy of each call, with room for all their completions.
 fn log_for(alloc: Global, calls: &[(ThreadNo, Call)]) -> Result<EventLog, AllocError>
     requires { length calls.now ≤ 2 ^ 40 }
-    ensures none { IfOk result (λ log. (log.events ≡ []) × (log.endings ≡ [])) }
+    ensures none { IfOk result (λ log. (log.events ≡ []) × (log.completions ≡ [])) }
     ensures noted { IfOk result (λ log. log.noted ≡ calls.now) }
     ensures room { IfOk result (λ log. log.completion_room ≡ length calls.now + 64) }
 {
@@ -32,7 +33,7 @@ fn log_for(alloc: Global, calls: &[(ThreadNo, Call)]) -> Result<EventLog, AllocE
     Ok(log)
 }
 
-/// Returns whether each call is of a thread of the roster.
+/// Returns whether the thread of each call is in the roster.
 fn all_known(kernel: &Kernel, calls: &[(ThreadNo, Call)]) -> bool
     ensures known { result ≡ true → AllKnown (members_of kernel.now.threads) calls.now }
     ensures unknown { AllKnown (members_of kernel.now.threads) calls.now → result ≡ true }
@@ -40,10 +41,12 @@ fn all_known(kernel: &Kernel, calls: &[(ThreadNo, Call)]) -> bool
     calls.iter().all(|(thread, _)| kernel.knows(*thread))
 }
 
-/// A list with room for fewer calls than this keeps its room. This many calls take some hundreds of kilobytes.
+/// A list with room for fewer calls than this keeps its memory. This many calls take some hundreds of
+/// kilobytes.
 const WORTH_GIVING_BACK: usize = 4096;
 
-/// Gives back the room of calls that were made, once they are at least half of what a large list has room for.
+/// Frees memory of a large list of calls, once at least half of its room is unused because the calls there
+/// were made.
 fn give_back(calls: &mut Vec<(ThreadNo, Call)>)
     ensures items { calls.new.items ≡ calls.old.items }
     ensures len { vec_len calls.new ≡ vec_len calls.old }
@@ -53,10 +56,10 @@ fn give_back(calls: &mut Vec<(ThreadNo, Call)>)
     }
 }
 
-/// Makes the calls in order, and logs the events. They must be the calls that the log has noted.
+/// Makes the calls in order, and logs the events. The calls must be the noted calls of the log.
 fn run_all(kernel: &mut Kernel, log: &mut EventLog, mut calls: Vec<(ThreadNo, Call)>)
     requires noted { log.old.noted ≡ calls.items }
-    requires none { (log.old.events ≡ []) × (log.old.endings ≡ []) }
+    requires none { (log.old.events ≡ []) × (log.old.completions ≡ []) }
     requires known { AllKnown (members_of kernel.old.threads) calls.items }
     requires limit { kernel.old.made + length calls.items ≤ 2 ^ 40 }
     requires room { length calls.items + blocked_count kernel.old.threads ≤ log.old.completion_room }
@@ -64,27 +67,33 @@ fn run_all(kernel: &mut Kernel, log: &mut EventLog, mut calls: Vec<(ThreadNo, Ca
     ensures told { map event_call log.new.events ≡ calls.items }
     ensures all { log.new.noted ≡ [] }
 {
-    let mut endings: Endings = ArrayVec::new_in(kernel.alloc());
+    let mut completions: Completions = ArrayVec::new_in(kernel.alloc());
     calls.reverse();
     while let Some(next) = calls.pop() {
         let (thread, call) = next;
-        kernel.step(thread, call, &mut endings);
-        log.append(&mut endings);
+        kernel.step(thread, call, &mut completions);
+        log.append(&mut completions);
         log.event();
         give_back(&mut calls);
     }
 }
 
-/// Makes the calls in order, and returns the trace of them. The room for the trace and the copies of the calls that it
-/// keeps are made first, so that an `Err` leaves the kernel as it was: `NoThread` if a thread of the list isn't in the
-/// roster, else `Exhausted` if the list would pass 2^40 calls, else `NoMemory`. The list is then dropped.
-/// `first_message.rt` of `crates/balsaeuchre_uses` is a whole use of it.
+/// Makes the calls in order, and returns the trace of the run. It takes the memory for the trace, which keeps
+/// copies of the calls, before it makes the first call. So an `Err` leaves the kernel unchanged, and drops
+/// the list.
+///
+/// The error is `NoThread` if a thread of the list isn't in the roster. Otherwise it is `Exhausted` if the
+/// list would pass 2^40 calls, and otherwise `NoMemory`.
+///
+/// `first_message.rt` of `crates/balsaeuchre_examples` is a complete use of it.
 pub fn run(kernel: &mut Kernel, calls: Vec<(ThreadNo, Call)>) -> Result<Trace, Errno>
     ensures headline { IfOk result (λ trace. Headline kernel.old trace kernel.new) }
-    ensures ok { OnOk result (AllKnown (members_of kernel.old.threads) calls.items × (kernel.old.made + length calls.items ≤ 2 ^ 40)) }
+    ensures ok { OnOk result
+        (AllKnown (members_of kernel.old.threads) calls.items
+        × (kernel.old.made + length calls.items ≤ 2 ^ 40)) }
     ensures told { IfOk result (λ trace. map event_call trace.events ≡ calls.items) }
 
-    // The error, and that it changes nothing.
+    // On an error nothing changes.
     ensures unchanged { OnErr result (kernel.new ≡ kernel.old) }
     ensures error { IfErr result (RunError kernel.old calls.items) }
 {

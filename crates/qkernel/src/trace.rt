@@ -1,4 +1,4 @@
-//! The trace of a run of calls.
+//! The events of a run of calls.
 
 ghost use Rattle.std.specs.Prelude.{◌≡◌, ◌<◌, length, slice_get, Some};
 ghost use Rattle.std.specs.Option.{option_map};
@@ -8,7 +8,7 @@ use qbase::ids::ThreadNo;
 use qmodel::call::{Call, Completion};
 use std::marker::Model;
 
-/// A call, and the range of its endings in the list of all.
+/// A call, and the range of its completions in the list of all completions.
 #[derive(Debug, Drop)]
 pub(crate) struct Entry {
     pub(crate) thread: ThreadNo,
@@ -17,14 +17,14 @@ pub(crate) struct Entry {
     pub(crate) end: usize,
 }
 
-/// The calls of a run in order, each with its endings. Contracts see the number of the first event and the list of the
-/// events.
-/// `main.rt` of `crates/balsaeuchre_uses` prints one.
+/// The events of a run, in order: each call with the completions of its event. Contracts see the number of
+/// the first event and the list of the events.
+/// `main.rt` of `crates/balsaeuchre_examples` prints a trace.
 #[derive(Debug, Drop)]
 pub struct Trace {
     first: u64,
     entries: Vec<Entry>,
-    endings: Vec<Completion>,
+    completions: Vec<Completion>,
 }
 
 impl Model for Trace {
@@ -34,26 +34,26 @@ impl Model for Trace {
 
     ghost use Rattle.qkernel.specs.Kept.{events_of, AllWithin};
 
-    ghost view = { λ t. record { first = t.first; events = events_of t.endings.items t.entries.items } };
+    ghost view = { λ t. record { first = t.first; events = events_of t.completions.items t.entries.items } };
 
-    ghost invariant = { λ t. AllWithin t.endings.items t.entries.items };
+    ghost invariant = { λ t. AllWithin t.completions.items t.entries.items };
 }
 
 impl Trace {
-    /// Makes the trace of these entries and endings, whose first event has the number `first`.
-    pub(crate) fn of(first: u64, entries: Vec<Entry>, endings: Vec<Completion>) -> Trace
-        requires { AllWithin endings.items entries.items }
-        ensures { result ≡ record { first = first; events = events_of endings.items entries.items } }
+    /// Makes the trace of these entries and completions, whose first event has the number `first`.
+    pub(crate) fn of(first: u64, entries: Vec<Entry>, completions: Vec<Completion>) -> Trace
+        requires { AllWithin completions.items entries.items }
+        ensures { result ≡ record { first = first; events = events_of completions.items entries.items } }
     {
         Trace {
             first,
             entries,
-            endings,
+            completions,
         }
     }
 
-    /// Returns the number of the first event, which is one more than the number of calls that the kernel had made
-    /// before.
+    /// Returns the number of the first event. It is one more than the number of calls that the kernel had
+    /// made before the run.
     pub fn first(&self) -> u64
         ensures { result ≡ self.now.first }
     {
@@ -85,12 +85,12 @@ impl Trace {
         &entry.call
     }
 
-    /// Returns the endings of the event at index `k`, from 0, in rising thread number.
-    pub fn endings(&self, k: usize) -> &[Completion]
+    /// Returns the completions of the event at index `k`, from 0, in ascending order of thread number.
+    pub fn completions(&self, k: usize) -> &[Completion]
         requires { k < length self.now.events }
-        ensures { option_map (λ e. e.endings) (slice_get self.now.events k) ≡ Some result.now }
+        ensures { option_map (λ e. e.completions) (slice_get self.now.events k) ≡ Some result.now }
     {
         let entry = &self.entries[k];
-        &self.endings[entry.start..entry.end]
+        &self.completions[entry.start..entry.end]
     }
 }

@@ -1,4 +1,4 @@
--- A call is the one that its kind and its operands make.
+-- A call that is made again from its kind, operands, bytes and buffer is the same call.
 use Rattle.std.proofs.Common.{◌≡◌, refl}
 use Rattle.qmodel.specs.declared.call.Call.{Call}
 use Rattle.qmodel.specs.declared.call.Call.TheVariants as calls

@@ -1,4 +1,4 @@
--- The table of calls: of each kind its word in scripts and its operands, and what a call has for them.
+-- The table of calls: the word and the operands of each kind, and the operands of each call.
 use Rattle.std.specs.Prelude.{ℕ, List, [], ◌∷◌, Option, codes, option_map, slice_get}
 use Rattle.std.specs.List.{find}
 use Rattle.std.specs.Str.{bytes_eq}
@@ -7,8 +7,8 @@ use Rattle.qmodel.specs.declared.call.Call.TheVariants as call
 use Rattle.qmodel.specs.declared.kind.CallKind.{CallKind}
 use Rattle.qmodel.specs.declared.kind.CallKind.TheVariants as kind
 use Rattle.qmodel.specs.declared.kind.TheConstants.{KINDS}
-use Rattle.qmodel.specs.declared.operands.Operand.{Operand}
-use Rattle.qmodel.specs.declared.operands.Operand.TheVariants as sort
+use Rattle.qmodel.specs.declared.operands.OperandKind.{OperandKind}
+use Rattle.qmodel.specs.declared.operands.OperandKind.TheVariants as sort
 use Rattle.qmodel.specs.declared.operands.Operands.{Operands}
 use Rattle.qmodel.specs.Operands.{no_operands, number_at, of_id, of_thread}
 
@@ -36,8 +36,8 @@ script_word kind.ConnectDetach = codes "detach"
 unfoldable pub kind_named : List ℕ → Option CallKind
 kind_named word = find (λ k. bytes_eq word (script_word k)) KINDS
 
--- the operands of a call of this kind, in the order of a script
-abbrev pub sorts_of : CallKind → List Operand
+-- the sorts of the operands of a call of this kind, in the order of a script
+abbrev pub sorts_of : CallKind → List OperandKind
 sorts_of kind.ChannelCreate = sort.Flags ∷ []
 sorts_of kind.ConnectAttach = sort.Channel ∷ []
 sorts_of kind.Send = sort.Connection ∷ sort.Message ∷ sort.ReplyBuffer ∷ []
@@ -97,7 +97,8 @@ operands_of call.Shutdown = no_operands
 operands_of (call.Unblock thread) = of_thread thread
 operands_of (call.ConnectDetach coid) = of_id coid
 
--- the call of this kind with these numbers, these bytes and this buffer, each of which it takes if it has one
+-- the call of this kind, made from these numbers, these bytes and this buffer; it ignores each that its kind
+-- doesn't have
 abbrev pub call_with : CallKind → Operands → List ℕ → List ℕ → Call
 call_with kind.ChannelCreate o bytes buffer = call.ChannelCreate (record { 0 = o.flags })
 call_with kind.ConnectAttach o bytes buffer = call.ConnectAttach o.id
@@ -117,6 +118,7 @@ call_with kind.Shutdown o bytes buffer = call.Shutdown
 call_with kind.Unblock o bytes buffer = call.Unblock o.thread
 call_with kind.ConnectDetach o bytes buffer = call.ConnectDetach o.id
 
--- the first operand of a call: flags, a channel, a connection, a receive id or a thread; None for a Shutdown
+-- the first operand of a call: flags, a channel, a connection, a receive id or a thread. It is None for a
+-- Shutdown.
 abbrev pub operand_of : Call → Option ℕ
 operand_of c = option_map (number_at (operands_of c)) (slice_get (sorts_of (kind_of c)) 0)

@@ -1,4 +1,4 @@
--- Open calls: a Send that waits for its answer, or a receive that waits for an item.
+-- Open calls: a Send that waits for its reply, or a receive that waits for an item.
 use Rattle.std.specs.Prelude.{List, ℕ, None, Option, Some}
 use Rattle.qmodel.specs.declared.open_call.OpenCall.{OpenCall}
 use Rattle.qmodel.specs.declared.open_call.OpenCall.TheVariants.{Receive, Send}
@@ -15,7 +15,7 @@ abbrev pub thread_of : OpenCall → ℕ
 thread_of (Send s) = s.thread
 thread_of (Receive r) = r.thread
 
--- the buffer that an open call gets back
+-- the buffer that an open call gets back when it completes
 abbrev pub buffer_in : OpenCall → List ℕ
 buffer_in (Send s) = s.reply_buffer
 buffer_in (Receive r) = r.buffer

@@ -1,10 +1,10 @@
 -- The numbers among the operands of a call.
 use Rattle.std.specs.Prelude.{ℕ, pos}
-use Rattle.qmodel.specs.declared.operands.Operand.{Operand}
-use Rattle.qmodel.specs.declared.operands.Operand.TheVariants as sort
+use Rattle.qmodel.specs.declared.operands.OperandKind.{OperandKind}
+use Rattle.qmodel.specs.declared.operands.OperandKind.TheVariants as sort
 use Rattle.qmodel.specs.declared.operands.Operands.{Operands}
 
--- those of a call that has none: 0, and the lowest priority
+-- the numbers of a call that has none: 0, and the lowest priority
 abbrev pub no_operands : Operands
 no_operands = record {
   id = 0;
@@ -19,16 +19,16 @@ no_operands = record {
   value = pos 0;
 }
 
--- those of a call that has only an id
+-- the numbers of a call that has only an id
 abbrev pub of_id : ℕ → Operands
 of_id n = record no_operands { id = n }
 
--- those of a call that has only a thread
+-- the numbers of a call that has only a thread
 abbrev pub of_thread : ℕ → Operands
 of_thread n = record no_operands { thread = n }
 
--- the number of flags, of a thread, or else the id
-abbrev pub number_at : Operands → Operand → ℕ
+-- the number of an operand of this sort: the flags, the thread, or the id for any other sort
+abbrev pub number_at : Operands → OperandKind → ℕ
 number_at o sort.Flags = o.flags
 number_at o sort.Thread = o.thread
 number_at o other = o.id

@@ -1,4 +1,4 @@
--- The list of all past calls, and the numbers and records in it.
+-- The history of a kernel: the list of its events, and the numbers and records in it.
 use Rattle.std.specs.Prelude.{ℕ, List}
 use Rattle.qbase.specs.declared.flags.ChannelFlags.{ChannelFlags}
 use Rattle.qqueue.specs.declared.item.Item.{Item}
@@ -27,7 +27,7 @@ ChannelId = ℕ
 abbrev pub ConnectionId : Type 0
 ConnectionId = ℕ
 
--- the id by which a message is received and answered: the number of its Send
+-- the id by which a server names a held message: the number of its Send
 abbrev pub ReceiveId : Type 0
 ReceiveId = ℕ
 
@@ -37,22 +37,22 @@ Priority = ℕ
 
 -- ---- events
 
--- a call that a thread made, and the endings that it caused, in rising thread number
+-- a call that a thread made, and the completions that it caused, in rising thread number
 pub record Event : Type 0 where
   pub thread : ThreadNo
   pub call : Call
-  pub endings : List Completion
+  pub completions : List Completion
 
--- all past events, the newest first; the oldest event has the number 1
+-- a history: all events so far, the newest first. The oldest event has the number 1.
 abbrev pub Trace : Type 0
 Trace = List Event
 
--- the part of a trace that one run made: the number of its first event, and its events, the oldest first
+-- the events that one run added to a history: the number of the first, and the events, the oldest first
 pub record Run : Type 0 where
   pub first : CallNo
   pub events : List Event
 
--- ---- what events make
+-- ---- channels and items
 
 -- an open channel: the process that owns it, and its flags
 pub record OpenChannel : Type 0 where

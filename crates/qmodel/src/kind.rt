@@ -3,9 +3,9 @@
 ghost use Rattle.std.specs.Prelude.{◌≡◌};
 ghost use Rattle.qmodel.specs.Kinds.{kind_named, script_word, sorts_of};
 
-use crate::operands::Operand;
+use crate::operands::OperandKind;
 
-/// A call without its operands. The variants are named as those of `Call`.
+/// A call without its operands. The variants have the names of the variants of `Call`.
 #[derive(Clone, Copy, Debug, PartialEq, Eq)]
 pub enum CallKind {
     ChannelCreate,
@@ -48,7 +48,7 @@ pub const KINDS: [CallKind; 17] = [
     CallKind::ConnectDetach,
 ];
 
-/// All kinds, as texts list them.
+/// All kinds, in the order in which texts list them.
 pub const LISTED: [CallKind; 17] = [
     CallKind::ChannelCreate,
     CallKind::ConnectAttach,
@@ -69,7 +69,7 @@ pub const LISTED: [CallKind; 17] = [
     CallKind::Shutdown,
 ];
 
-/// What a call makes that another call can name, or that another thread can receive.
+/// The thing that a call makes, if another call can name it or another thread can receive it.
 #[derive(Clone, Copy, Debug, PartialEq, Eq)]
 pub enum Product {
     Nothing,
@@ -81,23 +81,23 @@ pub enum Product {
 
 /// A row of the table of calls.
 #[derive(Clone, Copy)]
-pub struct Form {
+pub struct CallForm {
     /// The word for the call in a script.
     pub word: &'static str,
     /// QNX's names for the call, in lowercase without underscores.
     pub qnx_names: &'static [&'static str],
     /// The operands, in the order of a script.
-    pub operands: &'static [Operand],
+    pub operands: &'static [OperandKind],
     pub product: Product,
 }
 
-/// A row: the word, QNX's names, the operands, and what the call makes.
+/// A row of the table: the word, QNX's names, the operands, and the product of the call.
 macro_rules! form {
     ($word:literal, [$($name:literal),*], [$($operand:ident),*], $product:ident) => {
-        Form {
+        CallForm {
             word: $word,
             qnx_names: &[$($name),*],
-            operands: &[$(Operand::$operand),*],
+            operands: &[$(OperandKind::$operand),*],
             product: Product::$product,
         }
     };
@@ -105,7 +105,7 @@ macro_rules! form {
 
 impl CallKind {
     /// Returns the row of this kind in the table of calls.
-    pub fn form(self) -> Form
+    pub fn form(self) -> CallForm
         ensures word { result.word.now ≡ script_word self }
         ensures operands { result.operands.now ≡ sorts_of self }
     {

@@ -1,4 +1,4 @@
-//! The calls of the kernel, their results, and the calls that threads wait in.
+//! The calls of the kernel, their results, and the open calls in which threads are blocked.
 #![tactic(auto)]
 
 pub mod call;

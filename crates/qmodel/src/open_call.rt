@@ -1,4 +1,4 @@
-//! Open calls: calls that haven't ended, in which their threads are blocked.
+//! Open calls: calls that haven't completed, in which their threads are blocked.
 
 ghost use Rattle.std.specs.Prelude.{◌≡◌, option_copied};
 ghost use Rattle.qmodel.specs.OpenCalls.{buffer_in, number_of, receive_in, send_in};
@@ -17,11 +17,12 @@ pub struct Receipt {
     pub priority: Priority,
     /// Whether an unblock pulse was made for the message.
     pub unblocked: bool,
-    /// The number of the message's bytes that were copied.
+    /// The number of bytes of the message that were copied at its receipt.
     pub copied: usize,
 }
 
-/// A Send that hasn't ended: its thread is SEND-blocked until the message is received, and REPLY-blocked then.
+/// A Send that hasn't completed: its thread is SEND-blocked until the message is received, and then
+/// REPLY-blocked.
 #[derive(Debug, Drop)]
 pub struct OpenSend {
     /// The number of the call, which is the message's receive id.
@@ -31,22 +32,22 @@ pub struct OpenSend {
     /// The channel that the connection leads to.
     pub channel: ChannelId,
     pub message: Bytes,
-    /// The buffer that the answer is copied into, with all that was written over it.
+    /// The buffer that the reply is copied into, with the bytes that Writes copied over it so far.
     pub reply_buffer: Bytes,
     /// The record of the receipt; `None` until the message is received.
     pub receipt: Option<Receipt>,
 }
 
-/// A Receive or a ReceivePulse that hasn't ended: its thread is RECEIVE-blocked.
+/// A Receive or a ReceivePulse that hasn't completed: its thread is RECEIVE-blocked.
 #[derive(Debug, Drop)]
 pub struct OpenReceive {
     /// The number of the call.
     pub number: u64,
     pub thread: ThreadNo,
     pub channel: ChannelId,
-    /// What the call may take.
+    /// The kind of items that the call may take.
     pub kind: Kind,
-    /// The buffer that a message is copied into; empty for a ReceivePulse.
+    /// The buffer that a message is copied into. It is empty for a ReceivePulse.
     pub buffer: Bytes,
 }
 
@@ -57,20 +58,25 @@ pub enum OpenCall {
     Receive(OpenReceive),
 }
 
-/// A blocked thread, as the text of a trace shows it.
+/// A blocked thread, as a printed trace lists it.
 #[derive(Clone, Copy, Debug, PartialEq, Eq)]
 pub struct Blocked {
     /// The number of its open call.
     pub number: u64,
     pub thread: ThreadNo,
-    /// Its state, with the channel; never `Ready`.
+    /// Its state, with the channel. It is never `Ready`.
     pub state: ThreadState,
 }
 
 impl OpenSend {
-    /// Returns the completion of the Send, which gets its reply buffer back.
+    /// Returns the completion of the Send, with its reply buffer.
     pub fn completion(self, mark: Mark) -> Completion
-        ensures { result ≡ record { call = self.number; thread = self.thread; mark = mark; buffer = self.reply_buffer } }
+        ensures { result ≡ record {
+          call = self.number;
+          thread = self.thread;
+          mark = mark;
+          buffer = self.reply_buffer;
+        } }
     {
         Completion {
             call: self.number,
@@ -82,9 +88,14 @@ impl OpenSend {
 }
 
 impl OpenReceive {
-    /// Returns the completion of the receive, which gets its buffer back.
+    /// Returns the completion of the receive, with its buffer.
     pub fn completion(self, mark: Mark) -> Completion
-        ensures { result ≡ record { call = self.number; thread = self.thread; mark = mark; buffer = self.buffer } }
+        ensures { result ≡ record {
+          call = self.number;
+          thread = self.thread;
+          mark = mark;
+          buffer = self.buffer;
+        } }
     {
         Completion {
             call: self.number,

@@ -8,7 +8,7 @@ use qbase::priority::Priority;
 
 /// The sort of an operand.
 #[derive(Clone, Copy, Debug, PartialEq, Eq)]
-pub enum Operand {
+pub enum OperandKind {
     Thread,
     Process,
     Priority,
@@ -27,7 +27,8 @@ pub enum Operand {
     Data,
 }
 
-/// The numbers among a call's operands. One that the call doesn't have is 0, or the lowest priority.
+/// The numbers among a call's operands. A number that the call doesn't have is 0, and a priority that it
+/// doesn't have is the lowest.
 #[derive(Clone, Copy, Debug)]
 pub struct Operands {
     /// A channel, a connection or a receive id.
@@ -44,7 +45,7 @@ pub struct Operands {
 }
 
 impl Operands {
-    /// Returns the numbers of a call that has none.
+    /// Returns the numbers of a call that has none: 0, and the lowest priority.
     pub fn none() -> Operands
         ensures { result ≡ no_operands }
     {
@@ -82,13 +83,13 @@ impl Operands {
         }
     }
 
-    /// Returns the number of flags, of a thread, or else the id.
-    pub fn number(&self, sort: Operand) -> u64
+    /// Returns the number of an operand of this sort: the flags, the thread, or the id for any other sort.
+    pub fn number(&self, sort: OperandKind) -> u64
         ensures { result ≡ number_at self.now sort }
     {
         match sort {
-            Operand::Flags => u64::from(self.flags),
-            Operand::Thread => u64::from(self.thread.0),
+            OperandKind::Flags => u64::from(self.flags),
+            OperandKind::Thread => u64::from(self.thread.0),
             _ => self.id,
         }
     }

@@ -1,5 +1,6 @@
--- Numbers filled up with zeros.
-use Rattle.qqueue.proofs.Common.{◌≡◌, ℕ, zero, suc, ◌≤◌, List, [], ◌∷◌, ◌++◌, length, get_or, take, replicate, cond, Bool, true, false, refl, ap, ◌∙◌, take_all}
+-- LevelRings that are padded with zeros.
+use Rattle.qqueue.proofs.Common.{◌≡◌, ℕ, zero, suc, ◌≤◌, List, [], ◌∷◌, ◌++◌, length, get_or, take, replicate, cond}
+use Rattle.qqueue.proofs.Common.{Bool, true, false, refl, ap, ◌∙◌, take_all}
 
 zeros : (n k : ℕ) → let zeroes : List ℕ = replicate n 0 in get_or zeroes k 0 ≡ 0
 zeros zero k = refl
@@ -11,7 +12,9 @@ padded [] n k = zeros n k
 padded (x ∷ xs) n zero = refl
 padded (x ∷ xs) n (suc k) = padded xs n k
 
--- past the end of a list zero is read anyway
-pub resized : (ok : Bool) (old new : List ℕ) (n more : ℕ) → length old ≤ n → new ≡ cond ok (take n old ++ replicate more 0) old → (k : ℕ) → get_or new k 0 ≡ get_or old k 0
-resized true old new n more short is k = ap (λ l. get_or l k 0) (is ∙ ap (λ l. l ++ replicate more 0) (take_all n old short)) ∙ padded old more k
+-- padding with zeros changes no element, because a read past the end of a list returns zero
+pub resized : (ok : Bool) (old new : List ℕ) (n more : ℕ) → length old ≤ n
+    → new ≡ cond ok (take n old ++ replicate more 0) old → (k : ℕ) → get_or new k 0 ≡ get_or old k 0
+resized true old new n more short is k =
+    ap (λ l. get_or l k 0) (is ∙ ap (λ l. l ++ replicate more 0) (take_all n old short)) ∙ padded old more k
 resized false old new n more short is k = ap (λ l. get_or l k 0) is

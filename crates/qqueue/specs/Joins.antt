@@ -4,18 +4,18 @@ use Rattle.slab.specs.Slab.{Slab}
 use Rattle.qqueue.specs.declared.node.Node.{Node}
 use Rattle.qqueue.specs.Rings.{item_of, after_of, before_of, Linked}
 
--- all links stay, except the one after u, the one before v, and those of p
+-- all links stay the same, except the link after u, the link before v, and the links of p
 pub record Relinked (old new : Slab Node) (u v p : ℕ) : Type 0 where
   pub after : (x : ℕ) → x ≢ u → x ≢ p → after_of new x ≡ after_of old x
   pub before : (x : ℕ) → x ≢ v → x ≢ p → before_of new x ≡ before_of old x
 
--- all links stay
+-- all links stay the same
 pub record SameLinks (old new : Slab Node) : Type 0 where
   pub after : (x : ℕ) → after_of new x ≡ after_of old x
   pub before : (x : ℕ) → before_of new x ≡ before_of old x
 
--- the node joined the level's ring: before the node next, or behind the last one if next is None; it is a
--- ring of its own if the level had none
+-- the node joined the level's ring: before the node next, or at the end if next is None. If the level had no
+-- node, it is a ring of its own.
 pub record Joined (first after_first : ℕ → Option ℕ) (old new : Slab Node) (level key : ℕ)
     (next : Option ℕ) : Type 0 where
   pub items : (x : ℕ) → item_of new x ≡ item_of old x
@@ -27,8 +27,8 @@ pub record Joined (first after_first : ℕ → Option ℕ) (old new : Slab Node)
   pub in_front : (head : ℕ) → first level ≡ Some head → next ≡ Some head → after_first level ≡ Some key
   pub behind : (head : ℕ) → first level ≡ Some head → next ≢ Some head → after_first level ≡ Some head
 
--- the neighbours of a node that was taken out are linked to each other; the level has no node if it was the
--- only one
+-- the neighbours of a node that was removed are linked to each other. If it was the level's only node, the
+-- level has no node.
 pub record ClosedUp (first after_first : ℕ → Option ℕ) (old new : Slab Node) (key : ℕ) (node : Node) : Type
     0 where
   pub items : (x : ℕ) → item_of new x ≡ item_of old x

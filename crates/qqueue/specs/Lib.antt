@@ -2,6 +2,6 @@ pub mod Best
 pub mod Contents
 pub mod Joins
 pub mod Kept
-pub mod Lanes
+pub mod LevelHeads
 pub mod Order
 pub mod Rings

@@ -29,7 +29,7 @@ pub record IsFirst (kind : Kind) (items : List Item) (x : Item) : Type 0 where
   pub may : IsTrue (may_take kind x)
   pub first : All (λ y. IsTrue (may_take kind y) → y ≢ x → IsTrue (comes_before x y)) items
 
--- in a list of rising numbers, the best item comes before all others that may be taken
+-- in a list of rising numbers, the best item may be taken, and comes before all others that may be taken
 abbrev pub BestIsFirst : Type 0
 BestIsFirst = (kind : Kind) (items : List Item) (x : Item) → IsRising items → best_of kind items ≡ Some x
     → IsFirst kind items x

@@ -1,5 +1,5 @@
--- How a queue keeps its items: each in a node under a key, and for each level a ring of messages and a ring
--- of pulses. No public clause cites this module.
+-- How a queue keeps its items: each in a node under a key. For each level, the messages form one ring and
+-- the pulses another. No public clause cites this module.
 use Rattle.std.specs.Prelude.{◌≡◌, ℕ, ◌+◌, ◌<◌, ◌==◌, ◌&&◌, not, nat_lt, Bool, true, false, List, [], ◌∷◌}
 use Rattle.std.specs.Prelude.{Option, None, Some, if◌then◌else◌, filter, map, count_by}
 use Rattle.std.specs.List.{AllByRecursion}
@@ -9,7 +9,7 @@ use Rattle.qqueue.specs.declared.item.Item.{Item}
 use Rattle.qqueue.specs.declared.node.Node.{Node}
 use Rattle.qqueue.specs.Best.{is_pulse}
 
--- the places with one more, an item with the key of its node, inserted by number
+-- the places with one more, inserted by number; a place is an item with the key of its node
 abbrev pub put_place : Item × ℕ → List (Item × ℕ) → List (Item × ℕ)
 put_place place [] = place ∷ []
 put_place place (first ∷ places) =
@@ -33,7 +33,7 @@ places_of nodes = places_from 0 nodes.slots
 abbrev pub items_at : List (Item × ℕ) → List Item
 items_at places = map (λ place. place.0) places
 
--- how many items stand in front of the first one with a greater number
+-- how many items come before the first one with a greater number
 abbrev pub place_in : ℕ → List Item → ℕ
 place_in number [] = 0
 place_in number (first ∷ items) = if nat_lt number first.number then 0 else 1 + place_in number items
@@ -44,7 +44,7 @@ put_item item [] = item ∷ []
 put_item item (first ∷ items) =
     if nat_lt item.number first.number then item ∷ first ∷ items else first ∷ put_item item items
 
--- the items with more, each inserted by number, the last one first
+-- the items with more, each inserted by number, beginning with the last one
 abbrev pub put_items : List Item → List Item → List Item
 put_items [] items = items
 put_items (item ∷ more) items = put_item item (put_items more items)
@@ -53,7 +53,7 @@ put_items (item ∷ more) items = put_item item (put_items more items)
 abbrev pub pulses_of : List Item → ℕ
 pulses_of items = count_by (λ item. is_pulse item.what) items
 
--- each item has a greater number than those in front of it
+-- each item has a greater number than the items before it
 abbrev pub Rises : List (Item × ℕ) → Type 0
 Rises [] = Unit {0}
 Rises (first ∷ places) = AllByRecursion (λ place. first.0.number < place.0.number) places × Rises places

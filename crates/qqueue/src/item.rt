@@ -1,4 +1,4 @@
-//! The messages and pulses that wait to be received.
+//! Items: messages and pulses.
 
 use qbase::ids::{ProcessNo, ReceiveId};
 use qbase::priority::Priority;
@@ -20,7 +20,7 @@ impl What {
     ghost use Rattle.std.specs.Prelude.{◌≡◌};
     ghost use Rattle.qqueue.specs.Best.{is_pulse};
 
-    /// Returns whether it is a pulse. A pulse is never answered.
+    /// Returns whether it is a pulse. A pulse never gets a reply.
     pub fn is_pulse(&self) -> bool
         ensures { result ≡ is_pulse self.now }
     {
@@ -34,7 +34,7 @@ impl What {
 /// A message or a pulse that was sent and not yet received.
 #[derive(Clone, Copy, Debug, PartialEq, Eq)]
 pub struct Item {
-    /// The number of the call that made it; numbers rise in the order of making.
+    /// The number of the call that made it. An item that is made later has a greater number.
     pub number: u64,
     /// Its priority; the item of the greatest priority is received first.
     pub priority: Priority,

@@ -1,11 +1,11 @@
-//! The messages and pulses that wait to be received on one channel.
+//! The queue of one channel: the messages and pulses that were sent to it and not yet received.
 #![tactic(auto)]
 
 pub mod item;
-mod lane;
-pub mod laws;
+mod level_heads;
+mod level_rings;
 mod links;
-mod lists;
 mod node;
 mod order;
 pub mod queue;
+pub mod queue_laws;

@@ -52,8 +52,8 @@ pub fn link(nodes: &mut Slab<Node>, first: usize, second: usize)
     set_before(nodes, second, first);
 }
 
-/// Adds a node that is a ring of its own, and returns its key: the one that was vacated last. Takes no memory, for
-/// there is room.
+/// Adds a node that is a ring of its own, and returns its key: the key that was vacated last. Takes no
+/// memory, because there is room.
 pub fn add(nodes: &mut Slab<Node>, item: Item) -> usize
     requires { HasRoomFor nodes.old 1 }
     ensures key { result ≡ nodes.old.vacant_key }
@@ -74,11 +74,12 @@ pub fn add(nodes: &mut Slab<Node>, item: Item) -> usize
     })
 }
 
-/// Searches all nodes for the item of a number, and returns its key; `None` if there is no such item.
+/// Searches all nodes for the item of this number, and returns its key; `None` if there is no such item.
 fn search(nodes: &Slab<Node>, number: u64) -> Option<usize>
     ensures found { IfSome result (λ key. IfSome (item_of nodes.now key) (λ item. item.number ≡ number)) }
     ensures there { IfSome result (λ key. IsSome (item_of nodes.now key)) }
-    ensures absent { IfNone result ((key : ℕ) → IfSome (item_of nodes.now key) (λ item. item.number ≢ number)) }
+    ensures absent { IfNone result
+        ((key : ℕ) → IfSome (item_of nodes.now key) (λ item. item.number ≢ number)) }
 {
     for (key, node) in nodes.iter() {
         if node.item.number == number {
@@ -88,12 +89,13 @@ fn search(nodes: &Slab<Node>, number: u64) -> Option<usize>
     None
 }
 
-/// Returns the key of the item of a number: `key`, if the item is under it, or else by a search of all nodes; `None` if
-/// there is no such item.
+/// Returns the key of the item of this number; `None` if there is no such item. It looks under `key` first,
+/// and then searches all nodes.
 pub fn key_of(nodes: &Slab<Node>, number: u64, key: usize) -> Option<usize>
     ensures found { IfSome result (λ key. IfSome (item_of nodes.now key) (λ item. item.number ≡ number)) }
     ensures there { IfSome result (λ key. IsSome (item_of nodes.now key)) }
-    ensures absent { IfNone result ((key : ℕ) → IfSome (item_of nodes.now key) (λ item. item.number ≢ number)) }
+    ensures absent { IfNone result
+        ((key : ℕ) → IfSome (item_of nodes.now key) (λ item. item.number ≢ number)) }
 {
     match nodes.get(key) {
         Some(node) if node.item.number == number => Some(key),

@@ -2,7 +2,7 @@
 
 use crate::item::Item;
 
-/// An item that stands on a ring of nodes, named by their keys.
+/// An item, and its links in a ring of nodes. A link is the key of a node.
 #[derive(Clone, Copy, Debug)]
 pub struct Node {
     /// The item.

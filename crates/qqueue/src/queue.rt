@@ -1,6 +1,8 @@
 //! The queue of one channel.
 
-ghost use Rattle.std.specs.Prelude.{◌≡◌, ◌==◌, ◌+◌, ◌<◌, ◌≤◌, [], ◌∷◌, ◌++◌, length, count_by, IsOk, OnOk, OnErr, IfErr, IfSome, IfNone, IsSome, IsFalse, is_some, option_copied, IfOk};
+ghost use Rattle.std.specs.Prelude.{◌≡◌, ◌==◌, ◌+◌, ◌<◌, ◌≤◌, [], ◌∷◌, ◌++◌, length, count_by, IsOk, OnOk};
+ghost use Rattle.std.specs.Prelude.{OnErr, IfErr, IfSome, IfNone, IsSome, IsFalse, is_some, option_copied};
+ghost use Rattle.std.specs.Prelude.{IfOk};
 ghost use Rattle.std.specs.List.{AllByRecursion};
 ghost use Rattle.qbase.specs.declared.errno.Errno.TheVariants.{NoMemory};
 ghost use Rattle.qqueue.specs.Best.{best_of, without_item, with_item_priority, item_of_number, is_pulse};
@@ -9,19 +11,19 @@ ghost use Rattle.qqueue.specs.Kept.{IsKept};
 ghost use Rattle.qqueue.specs.Rings.{places_of, items_at, item_of, pulses_of};
 
 use crate::item::{Item, Kind};
+use crate::level_rings::LevelRings;
 use crate::links::key_of;
-use crate::lists::Lists;
 use crate::order::in_order;
 use qbase::errno::Errno;
 use qbase::priority::Priority;
 use std::alloc::{AllocError, Global};
 use std::marker::Model;
 
-/// The messages and pulses that were sent to one channel and not yet received, in the order in which they were sent.
-/// Contracts see the items and the room that is reserved for more, but not how they are kept.
+/// The messages and pulses that were sent to one channel and not yet received, in the order in which they
+/// were sent. Contracts see the items, and the room that is reserved for more, but not how they are kept.
 #[derive(Debug, Drop)]
 pub struct Queue {
-    lists: Lists,
+    lists: LevelRings,
     // The number of items that are pulses.
     pulses: usize,
 }
@@ -39,13 +41,14 @@ impl Model for Queue {
     ghost invariant = { λ q. IsKept q.lists × (q.pulses ≡ pulses_of (items_at (places_of q.lists.nodes))) };
 }
 
-/// Takes the item under a key out, keeps the count of pulses right, and returns the item.
-fn take_out(lists: &mut Lists, pulses: &mut usize, key: usize) -> Item
+/// Removes the item under this key, updates the count of pulses, and returns the item.
+fn take_out(lists: &mut LevelRings, pulses: &mut usize, key: usize) -> Item
     requires kept { IsKept lists.old }
     requires there { IsSome (item_of lists.old.nodes key) }
     requires counted { pulses.old ≡ pulses_of (items_at (places_of lists.old.nodes)) }
     ensures item { item_of lists.old.nodes key ≡ Some result }
-    ensures rest { items_at (places_of lists.new.nodes) ≡ without_item result.number (items_at (places_of lists.old.nodes)) }
+    ensures rest { items_at (places_of lists.new.nodes) ≡ without_item result.number
+        (items_at (places_of lists.old.nodes)) }
     ensures kept { IsKept lists.new }
     ensures room { lists.old.room ≤ lists.new.room }
     ensures counted { pulses.new ≡ pulses_of (items_at (places_of lists.new.nodes)) }
@@ -63,12 +66,13 @@ impl Queue {
         ensures { result ≡ record { items = []; room = 0 } }
     {
         Queue {
-            lists: Lists::new(alloc),
+            lists: LevelRings::new(alloc),
             pulses: 0,
         }
     }
 
-    /// Makes room for `n` more items; `NoMemory` if the allocator refuses. No other method of a queue takes memory.
+    /// Makes room for `n` more items; `NoMemory` if the allocator refuses. No other method takes memory for
+    /// the queue.
     pub fn reserve(&mut self, n: usize) -> Result<(), Errno>
         ensures items { self.new.items ≡ self.old.items }
         ensures room { OnOk result (n ≤ self.new.room) }
@@ -82,9 +86,9 @@ impl Queue {
         self.lists.reserve(n).map_err(|_| Errno::NoMemory)
     }
 
-    /// Adds an item behind all others. There must be room for it, made by `reserve`: one place of it is used, and no
-    /// memory is taken. Returns the item's key, by which `remove` and `requeue` find it at once; the item keeps this
-    /// key for as long as it waits.
+    /// Adds an item after all others. `reserve` must have made room for it: one place of the room is used,
+    /// and no memory is taken. Returns the item's key, by which `remove` and `requeue` find the item at once.
+    /// The item keeps this key as long as it is queued.
     pub fn push(&mut self, item: Item) -> usize
         requires room { 0 < self.old.room }
         requires newest { AllByRecursion (λ x. x.number < item.number) self.old.items }
@@ -108,8 +112,9 @@ impl Queue {
         Some(&self.lists.nodes[key].item)
     }
 
-    /// Takes out the item of greatest priority that a receive of this kind may take, and among equals the one that was
-    /// sent first (messages and pulses in one order: own profile). `None` if there is no such item.
+    /// Takes out the item of greatest priority that a receive of this kind may take, and among equals the
+    /// item that was sent first. Messages and pulses are in one order, by this kernel's own choice. `None` if
+    /// there is no such item.
     pub fn take(&mut self, kind: Kind) -> Option<Item>
         ensures best { result ≡ best_of kind self.old.items }
         ensures rest { IfSome result (λ item. self.new.items ≡ without_item item.number self.old.items) }
@@ -120,9 +125,9 @@ impl Queue {
         Some(take_out(&mut self.lists, &mut self.pulses, best))
     }
 
-    /// Takes out the item of this number, whatever its priority; `None` if there is no such item. The key is a hint,
-    /// and may be any number: the item is found at once if it is the key that `push` returned, and otherwise by a
-    /// search of all items.
+    /// Takes out the item of this number, whatever its priority; `None` if there is no such item. The key is
+    /// a hint, and may be any number. If `push` returned it for this item, the item is found at once, and
+    /// otherwise by a search of all items.
     pub fn remove(&mut self, number: u64, key: usize) -> Option<Item>
         ensures found { result ≡ item_of_number number self.old.items }
         ensures rest { self.new.items ≡ without_item number self.old.items }
@@ -133,9 +138,9 @@ impl Queue {
         Some(take_out(&mut self.lists, &mut self.pulses, key))
     }
 
-    /// Changes the priority of the item of this number; takes no memory. Returns whether there is such an item. It
-    /// moves to its place by number among the items of its new priority, not behind them. The key is a hint, as in
-    /// `remove`.
+    /// Changes the priority of the item of this number; takes no memory. Returns whether there is such an
+    /// item. The item moves to its place by number among the items of its new priority, not to their end. The
+    /// key is a hint, as in `remove`.
     pub fn requeue(&mut self, number: u64, priority: Priority, key: usize) -> bool
         ensures found { result ≡ is_some (item_of_number number self.old.items) }
         ensures items { self.new.items ≡ with_item_priority number priority self.old.items }
@@ -151,8 +156,8 @@ impl Queue {
         }
     }
 
-    /// Returns a copy of all items, in the order in which they were sent. The time grows with the square of their
-    /// number, so it suits a look at a small queue, and no call of the kernel makes one.
+    /// Returns a copy of all items, in the order in which they were sent. The time grows with the square of
+    /// the number of items, so it is for a look at a small queue. No call of the kernel uses it.
     pub fn items(&self, alloc: Global) -> Result<Vec<Item>, AllocError>
         ensures { IfOk result (λ items. items.items ≡ self.now.items) }
     {

@@ -1,12 +1,18 @@
 -- Names of other crates and of the definitions, which many of these proofs use.
-pub use Rattle.qbase.proofs.Lists.{all_append, all_filter, all_filter_map, all_map, all_more, all_passing, any_filter_map, any_filter_map_at, any_never, any_only, cond_same, eqb_either, eqb_same, filter_all, filter_same, filter_twice, filter_whole, is_among, none_of, or_none, some_of}
-pub use Rattle.qbase.specs.Laying.{laid_count, lay_over}
+pub use Rattle.qbase.proofs.Lists.{all_append, all_filter, all_filter_map, all_map, all_more, all_passing}
+pub use Rattle.qbase.proofs.Lists.{any_filter_map, any_filter_map_at, any_never, any_only, cond_same, eqb_either}
+pub use Rattle.qbase.proofs.Lists.{eqb_same, filter_all, filter_same, filter_twice, filter_whole, is_among, none_of}
+pub use Rattle.qbase.proofs.Lists.{or_none, some_of}
+pub use Rattle.qbase.specs.Copying.{laid_count, lay_over}
 pub use Rattle.qbase.specs.declared.errno.Errno.{Errno}
 pub use Rattle.qbase.specs.declared.errno.Errno.TheVariants.{Badf, Busy, Down, Intr, Inval, NoMemory, Srch}
 pub use Rattle.qmodel.specs.OpenCalls.{buffer_in, number_of, thread_of}
-pub use Rattle.qmodel.specs.Trace.{CallNo, ChannelId, ConnectionId, Event, OpenChannel, Priority, ProcessNo, ReceiveId, SentItem, ThreadNo, Trace}
+pub use Rattle.qmodel.specs.Trace.{CallNo, ChannelId, ConnectionId, Event, OpenChannel, Priority, ProcessNo, ReceiveId}
+pub use Rattle.qmodel.specs.Trace.{SentItem, ThreadNo, Trace}
 pub use Rattle.qmodel.specs.declared.call.Call.{Call}
-pub use Rattle.qmodel.specs.declared.call.Call.TheVariants.{ChannelCreate, ChannelDestroy, ConnectAttach, ConnectDetach, Error, Info, PrioritySet, Pulse, Read, ReceivePulse, Reply, Shutdown, State, Unblock, Write}
+pub use Rattle.qmodel.specs.declared.call.Call.TheVariants.{ChannelCreate, ChannelDestroy, ConnectAttach, ConnectDetach}
+pub use Rattle.qmodel.specs.declared.call.Call.TheVariants.{Error, Info, PrioritySet, Pulse, Read, ReceivePulse, Reply}
+pub use Rattle.qmodel.specs.declared.call.Call.TheVariants.{Shutdown, State, Unblock, Write}
 pub use Rattle.qmodel.specs.declared.call.Completion.{Completion}
 pub use Rattle.qmodel.specs.declared.call.Mark.{Mark}
 pub use Rattle.qmodel.specs.declared.open_call.OpenCall.{OpenCall}
@@ -18,24 +24,35 @@ pub use Rattle.qqueue.specs.Contents.{IsRising}
 pub use Rattle.qqueue.specs.declared.item.Item.{Item}
 pub use Rattle.qqueue.specs.declared.item.Kind.{Kind}
 pub use Rattle.qqueue.specs.declared.item.Kind.TheVariants.{Any, PulseOnly}
-pub use Rattle.qrules.specs.Delivery.{cancel_call, cancels, deliver, delivery_of, is_on, is_over, newest_receiver, receipt_completion, refusal_if_full, refusal_if_full_for}
-pub use Rattle.qrules.specs.Facts.{Facts, OpenReceive, OpenSend, has_flag, holds, receive_in, receive_of, route, send_in, send_of}
+pub use Rattle.qrules.specs.Delivery.{cancel_call, cancels, deliver, delivery_of, is_on, is_over, newest_receiver}
+pub use Rattle.qrules.specs.Delivery.{receipt_completion, refusal_if_full, refusal_if_full_for}
+pub use Rattle.qrules.specs.Facts.{Facts, OpenReceive, OpenSend, has_flag, holds, receive_in, receive_of, route}
+pub use Rattle.qrules.specs.Facts.{send_in, send_of}
 pub use Rattle.qrules.specs.Lawful.{HadMemory, IsOnlyRun, event_call, facts_of, item_made_by, items_and_priorities}
 pub use Rattle.qrules.specs.Outcome.{Answers, MayRefuse, Outcome, completion_to, refusal_of}
 pub use Rattle.qrules.specs.Past.{ReceivedItem, channel_of, item_among, waiter}
-pub use Rattle.qrules.specs.Properties.{AllDifferent, AnsweredToSender, AnswersIts, AnswersOnce, BestFirst, CopiedExactly, HasProperties, IsCopied, IsEarliest, IsShut, ReceivedOnce, SentOrder, ShutForGood, TakesBest, TakesSent, buffer_at, connection_of, is_answer, items, message_at, number_received, request_of, takeable}
-pub use Rattle.qrules.specs.Records.{buffer_of_open, cancel_where, disconnect_item, error_mark, held_call, is_after, is_for_receipt, is_last_wait, is_newest, is_thread, is_unread_send, message_in, message_of, newest_receiver_among, reply_buffer_in, sender_among, takes, takes_into, tells_disconnect, tells_unblock, unblocked_call, wait_on, with_buffer, written_call}
+pub use Rattle.qrules.specs.Properties.{AllDifferent, AnsweredToSender, AnswersIts, AnswersOnce, BestFirst}
+pub use Rattle.qrules.specs.Properties.{CopiedExactly, HasProperties, IsCopied, IsEarliest, IsShut, ReceivedOnce}
+pub use Rattle.qrules.specs.Properties.{SentOrder, ShutForGood, TakesBest, TakesSent, buffer_at, connection_of}
+pub use Rattle.qrules.specs.Properties.{is_answer, items, message_at, number_received, request_of, takeable}
+pub use Rattle.qrules.specs.Records.{buffer_of_open, cancel_where, disconnect_item, error_mark, held_call, is_after}
+pub use Rattle.qrules.specs.Records.{is_for_receipt, is_last_wait, is_newest, is_thread, is_unread_send, message_in}
+pub use Rattle.qrules.specs.Records.{message_of, newest_receiver_among, reply_buffer_in, sender_among, takes}
+pub use Rattle.qrules.specs.Records.{takes_into, tells_disconnect, tells_unblock, unblocked_call, wait_on, with_buffer}
+pub use Rattle.qrules.specs.Records.{written_call}
 pub use Rattle.qrules.specs.Rule.{Effect, PriorityChange, ReceiveRequest, Transfer, buffer_of, own_completion}
 pub use Rattle.qrules.specs.Rules.{effect_of, row_of}
 pub use Rattle.qrules.specs.Rules.Connections.{disconnect_pulse}
 pub use Rattle.qrules.specs.Rules.Held.{info_of, refusal_unless_held}
 pub use Rattle.qrules.specs.Rules.Pulse.{pulse_over}
 pub use Rattle.qrules.specs.Rules.Unblock.{due_pulse_of, guards, pulse_for, unblock_pulse}
-pub use Rattle.qrules.specs.Trace.{AreApart, InEachEvent, call_at, endings_of, gets, thread_at}
+pub use Rattle.qrules.specs.Trace.{AreApart, InEachEvent, call_at, completions_of, gets, thread_at}
 pub use Rattle.qtables.specs.Members.{IsRoster, member_at}
 pub use Rattle.qtables.specs.declared.connection.Connection.{Connection}
 pub use Rattle.qtables.specs.declared.member.Member.{Member}
-pub use Rattle.std.proofs.Common.{Bool, List, Option, [], ap, append-nil, arith, cond, eq-eqb, eqb, false, inl, inr, is_some, length, map, option_and_then, refl, subst, suc, sym, true, true≢false, zero, ℕ, ◌++◌, ◌+◌, ◌<◌, ◌∙◌, ◌∷◌, ◌≡◌, ◌≢◌, ◌≤◌, ◌⊎◌}
+pub use Rattle.std.proofs.Common.{Bool, List, Option, [], ap, append-nil, arith, cond, eq-eqb, eqb, false, inl, inr}
+pub use Rattle.std.proofs.Common.{is_some, length, map, option_and_then, refl, subst, suc, sym, true, true≢false, zero}
+pub use Rattle.std.proofs.Common.{ℕ, ◌++◌, ◌+◌, ◌<◌, ◌∙◌, ◌∷◌, ◌≡◌, ◌≢◌, ◌≤◌, ◌⊎◌}
 pub use Rattle.std.proofs.Math.Bool.{and-false, or-false, or-true}
 pub use Rattle.std.proofs.lemmas.Bool.{and_parts, cases_Bool, cases_eq, eqb-false, eqb-true, ne_eqb, not-true}
 pub use Rattle.std.proofs.lemmas.List.{map-append}
@@ -44,4 +61,5 @@ pub use Rattle.std.proofs.lemmas.Option.{cond_some, none-some, option_and_then_s
 pub use Rattle.std.specs.List.{AllByRecursion, cons_option, filter_map, list_any}
 pub use Rattle.std.specs.Option.{option_map, option_map_or, option_or, option_to_list}
 pub use Rattle.std.specs.Ordering.{int_eq}
-pub use Rattle.std.specs.Prelude.{None, Some, count_by, filter, find, if◌then◌else◌, int_lt, nat_lt, not, pos, unwrap_or, ℤ, ◌&&◌, ◌==◌, ◌||◌}
+pub use Rattle.std.specs.Prelude.{None, Some, count_by, filter, find, if◌then◌else◌, int_lt, nat_lt, not, pos}
+pub use Rattle.std.specs.Prelude.{unwrap_or, ℤ, ◌&&◌, ◌==◌, ◌||◌}

@@ -1,5 +1,6 @@
 -- The open Send of a number.
-use Rattle.qrules.proofs.Common.{arith, ◌≡◌, ◌⊎◌, ℕ, false, message_in, reply_buffer_in, Send, None, Some, option_map_or}
+use Rattle.qrules.proofs.Common.{arith, ◌≡◌, ◌⊎◌, ℕ, false, message_in, reply_buffer_in, Send, None, Some}
+use Rattle.qrules.proofs.Common.{option_map_or}
 use Rattle.qrules.proofs.Words.Facts.{is_held_by, sender_call}
 use Rattle.qrules.proofs.Traces.Past.Senders.{sender_sends}
 use Rattle.qrules.specs.Facts.{holds, message, open_send, reply_buffer, sender, threads_of, Facts, OpenSend}
@@ -21,7 +22,7 @@ pub record OneSend (f : Facts) (i : ℕ) : Type 0 where
 pub send_cases : (f : Facts) (i : ℕ) → NoSend f i ⊎ OneSend f i
 send_cases f i = grind (arith, sender_sends f.open_call i (threads_of f.roster))
 
--- ---- what is read of it, by the call that its sender waits in
+-- ---- the parts of a message that are read, by the open call of its sender
 
 pub held_same : (f : Facts) (t i : ℕ) → holds f t i ≡ option_map_or (is_held_by f t) (sender_call f i) false
 held_same f t i = grind arith

@@ -1,4 +1,4 @@
--- What the proofs say of the facts, of the past, and of what an event does to the facts.
+-- Definitions of the proofs, about the facts, the history, and the change of the facts by an event.
 pub mod Facts
 pub mod Items
 pub mod Effects

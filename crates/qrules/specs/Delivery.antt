@@ -1,5 +1,5 @@
--- Definitions that the rules share: delivery of an item to a receiver, the limit of pulses, and cancelling of
--- blocked calls.
+-- Definitions that the rules share: delivery of an item to a receiver, the limit of queued pulses, and
+-- cancelling of open calls.
 use Rattle.std.specs.Prelude.{◌&&◌, ◌==◌, if◌then◌else◌}
 use Rattle.qrules.specs.Words.{[], count_by, false, find, is_pulse, is_some, laid_count, lay_over, list_any}
 use Rattle.qrules.specs.Words.{may_take, nat_lt, not, option_and_then, option_map, option_map_or, option_or}
@@ -13,8 +13,8 @@ use Rattle.qmodel.specs.declared.open_call.OpenCall.TheVariants.{Receive, Send}
 
 -- ---- a receiver
 
--- the mark and the buffer of a receive that takes an item: a message is copied over the front of the buffer,
--- a pulse is in the mark alone
+-- the result and the buffer of a receive that takes an item. A message is copied over the front of the
+-- buffer. A pulse is only in the result, and the buffer doesn't change.
 abbrev pub delivery_of : Item → Bytes → Bytes → Mark × Bytes
 delivery_of item message buffer =
     if is_pulse item.what then (mark.Pulse item.number item.priority item.what, buffer)
@@ -29,7 +29,7 @@ receipt_completion item message u n buffer = record {
   buffer = (delivery_of item message buffer).1;
 }
 
--- the number of an open call that waits on channel h and may take the item
+-- the number of the open call, if it is a receive on channel h that may take the item
 abbrev pub wait_for : ChannelId → Item → OpenCall → Option CallNo
 wait_for h item (Send s) = None
 wait_for h item (Receive r) = if (r.channel == h) && may_take r.kind item then Some r.number else None
@@ -46,12 +46,13 @@ abbrev pub is_over : ConnectionId → OpenCall → Bool
 is_over k (Send s) = s.connection == k
 is_over k (Receive r) = false
 
--- the completion of thread u's cancelled call: it fails, and gives its buffer back in its present state
+-- the completion of thread u's cancelled call: it fails, and returns its buffer in its current state
 abbrev pub cancel_call : Errno → ThreadNo → OpenCall → Completion
 cancel_call e u o = record { call = number_of o; thread = u; mark = mark.Failed e; buffer = buffer_in o }
 
 module _ (f : Facts) where
-  -- the completion of thread u's open call, if the condition is true of both: the call is cancelled
+  -- the completion of thread u's open call, if the condition is true for u and the call: the call is
+  -- cancelled with error e
   abbrev pub cancels : (ThreadNo → OpenCall → Bool) → Errno → ThreadNo → Option Completion
   cancels is_cancelled e u =
       option_and_then (λ o. if is_cancelled u o then Some (cancel_call e u o) else None) (f.open_call u)
@@ -61,31 +62,32 @@ module _ (f : Facts) where
   is_last_wait h item n = not (list_any (λ v. option_map_or (λ m. nat_lt n m)
       (option_and_then (wait_for h item) (f.open_call v)) false) (threads_of f.roster))
 
-  -- the thread that takes the item: of those that wait on channel h for it, the one that began to wait last
+  -- the newest receiver of the item: of the threads whose open receive on channel h may take it, the thread
+  -- whose receive has the greatest number
   abbrev pub newest_receiver : ChannelId → Item → Option ThreadNo
   newest_receiver h item = find (λ u. option_map_or (is_last_wait h item)
       (option_and_then (wait_for h item) (f.open_call u)) false) (threads_of f.roster)
 
-  -- the completion of thread u's open call, if u takes the item that is sent
+  -- the completion of thread u's open call, if an item is sent and u takes it
   abbrev pub deliver : Option SentItem → Bytes → ThreadNo → Option Completion
   deliver sent message u = option_and_then (λ m. option_and_then (λ r. if u == r
       then option_map (λ x. receipt_completion m.item message u x.number x.buffer) (receive_of f u) else None)
       (newest_receiver m.channel m.item)) sent
 
-  -- an item is sent and no thread takes it, so it needs memory to wait in
+  -- an item is sent and no thread takes it, so it needs memory in the queue
   abbrev pub has_to_wait : Option SentItem → Bool
   has_to_wait sent = option_map_or (λ m. not (is_some (newest_receiver m.channel m.item))) sent false
 
-  -- Again if 1,024 pulses are pending on channel h
+  -- Again if 1,024 pulses are queued on channel h
   abbrev pub refusal_if_full : ChannelId → Option Errno
   refusal_if_full h =
       if nat_lt (count_by (λ x. is_pulse x.what) (f.pending h)) 1024 then None else Some Again
 
-  -- the same of a pulse that is sent, if one is
+  -- Again if a pulse is sent to a channel on which 1,024 pulses are queued
   abbrev pub refusal_if_full_for : Option SentItem → Option Errno
   refusal_if_full_for pulse = option_and_then (λ m. refusal_if_full m.channel) pulse
 
-  -- the row of a call that ends with Ok, cancels these calls of others, and may send a pulse
+  -- the row of a call that completes with Ok, cancels these calls of other threads, and may send a pulse
   abbrev pub pulse_row : ThreadNo → Option Errno → (ThreadNo → Option Completion) → Option SentItem → Row
   pulse_row t refusal cancellations pulse = record (plain_row f t refusal mark.Ok) {
     takes_memory = has_to_wait pulse;

@@ -1,4 +1,4 @@
--- Lawful traces: the endings of each event are the ones that the rules require after the events before it.
+-- Valid histories: each event has the completions that the rules require after the events before it.
 use Rattle.std.specs.Prelude.{◌++◌, ◌+◌, ◌==◌, ◌∷◌, ◌≡◌, if◌then◌else◌}
 use Rattle.qrules.specs.Words.{[], is_some, length, map, member_at, option_and_then}
 use Rattle.qrules.specs.Words.{option_map_or, option_or, option_to_list, unwrap_or, AllByRecursion}
@@ -12,7 +12,7 @@ use Rattle.qrules.specs.Past.{channel_at, connection_at, first_among, is_accepte
 use Rattle.qrules.specs.Past.{items_by_now, open_call_by, pending_among, priority_set_by, was_done}
 use Rattle.qrules.specs.Words.mark
 
--- all items made so far, each as it was made, in rising number, and each thread's priority
+-- all items made so far, each as it was made, in rising number, and each thread's current priority
 pub record ItemsAndPriorities : Type 0 where
   pub items : List SentItem
   pub priority : ThreadNo → Priority
@@ -22,8 +22,8 @@ abbrev pub item_made_by : Facts → Event → Trace → Option SentItem
 item_made_by f e past = if is_accepted e past then (effect_of e.call).makes f e.thread else None
 
 module _ (roster : List Member) where
-  -- the facts after these events, given all items made and the threads' priorities; facts_of has the same
-  -- without them, which are made by these facts, event by event
+  -- the facts after this history, given all items made so far and the threads' priorities. Both depend on the
+  -- facts before each event: items_and_priorities finds them event by event, and facts_of uses them here.
   abbrev pub facts_by : Trace → ItemsAndPriorities → Facts
   facts_by past known = let items : List SentItem = items_by_now past known.items in record {
     roster = roster;
@@ -38,20 +38,22 @@ module _ (roster : List Member) where
     priority = known.priority;
   }
 
-  -- the priority that a receiver of item i takes: the item's present one, unless the channel fixes priorities
+  -- the priority that a receiver of item i takes: the item's current priority, unless the channel fixes
+  -- priorities
   abbrev pub carried_priority : Trace → List SentItem → CallNo → Option Priority
   carried_priority past items i = option_and_then
       (λ m. if has_flag 1 (channel_at roster past m.channel) then None else Some m.item.priority)
       (item_among (items_by_now past items) i)
 
-  -- the priority that thread t takes by event e: the one that the event sets, or else that of the item that t
-  -- receives
+  -- the priority that thread t takes by event e: the priority that the event sets for t, or the priority of
+  -- the item that t receives
   abbrev pub priority_given_by : Event → Trace → List SentItem → ThreadNo → Option Priority
   priority_given_by e past items t = option_or (priority_set_by e past t) (first_among
       (λ x. if x.thread == t then option_and_then (λ r. carried_priority past items r.number) (item_in x.mark)
-      else None) e.endings)
+      else None) e.completions)
 
-  -- each accepted event may make an item, and a thread begins with the priority in the roster
+  -- all items made, and the threads' priorities: each accepted event may make an item, and a thread begins
+  -- with the priority in the roster
   abbrev pub items_and_priorities : Trace → ItemsAndPriorities
   items_and_priorities [] =
       record { items = []; priority = λ t. option_map_or (λ m. m.priority) (member_at roster t) 0 }
@@ -63,15 +65,15 @@ module _ (roster : List Member) where
         priority = λ t. unwrap_or (priority_given_by e past items t) (known.priority t);
       }
 
-  -- the facts after these events
+  -- the facts after this history
   abbrev pub facts_of : Trace → Facts
   facts_of past = facts_by past (items_and_priorities past)
 
-  -- each event is a call of a thread of the roster, and its endings answer the call after the events before
-  -- it
+  -- the history is valid: each event is a call of a thread of the roster, and its completions are right for
+  -- the call after the events before it
   abbrev pub IsLawful : Trace → Type 0
   IsLawful = InEachEvent (λ past e.
-      IsTrue (is_some (member_at roster e.thread)) × Answers (facts_of past) e.thread e.call e.endings)
+      IsTrue (is_some (member_at roster e.thread)) × Answers (facts_of past) e.thread e.call e.completions)
 
 -- ---- the only run
 
@@ -79,12 +81,12 @@ module _ (roster : List Member) where
 abbrev pub event_call : Event → ThreadNo × Call
 event_call e = (e.thread, e.call)
 
--- no call of these events was refused for lack of memory
+-- no call of these events failed for lack of memory
 abbrev pub HadMemory : List Event → Type 0
 HadMemory events =
-    AllByRecursion (λ e. AllByRecursion (λ x. x.mark ≡ mark.Failed NoMemory → ⊥) e.endings) events
+    AllByRecursion (λ e. AllByRecursion (λ x. x.mark ≡ mark.Failed NoMemory → ⊥) e.completions) events
 
--- if these events had memory, no other events with the same calls are lawful after this past and had memory
+-- if these events had memory, no other events with the same calls are valid after this history and had memory
 abbrev pub IsOnlyRun : List Member → Trace → List Event → Type 0
 IsOnlyRun roster past events =
     HadMemory events → (others : List Event) → map event_call others ≡ map event_call events

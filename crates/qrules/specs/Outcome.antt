@@ -1,4 +1,4 @@
--- The endings that a call must have, given the facts before it.
+-- The completions that a call must cause, given the facts before it.
 use Rattle.std.specs.Prelude.{◌==◌, ◌∷◌, ◌≡◌, ◌⊎◌, if◌then◌else◌}
 use Rattle.qrules.specs.Words.{[], false, filter_map, is_some, true, Bool, Busy, Call, Completion, Down}
 use Rattle.qrules.specs.Words.{Errno}
@@ -10,13 +10,14 @@ use Rattle.qrules.specs.Rules.{row_of}
 use Rattle.qrules.specs.Words.mark
 
 module _ (f : Facts) (t : ThreadNo) (c : Call) where
-  -- the first refusal that applies: Down after a shutdown, then Busy if the caller is blocked, then the row's
-  -- own
+  -- the error with which the call fails: Down after a shutdown, then Busy if the caller is blocked, then the
+  -- row's own error. It is None if none applies.
   abbrev pub refusal_of : Option Errno
   refusal_of =
       if f.down then Some Down else (if is_some (f.open_call t) then Some Busy else (row_of f t c).refusal)
 
-  -- the refusals that are allowed: that one, or lack of memory if there is none
+  -- the call may fail with error e: with refusal_of, or with NoMemory if refusal_of is None and the row takes
+  -- memory
   abbrev pub MayRefuse : Errno → Type 0
   MayRefuse e = (refusal_of ≡ Some e)
       ⊎ ((refusal_of ≡ None) × ((row_of f t c).takes_memory ≡ true) × (e ≡ NoMemory))
@@ -25,14 +26,14 @@ module _ (f : Facts) (t : ThreadNo) (c : Call) where
   abbrev pub completion_to : ThreadNo → Option Completion
   completion_to u = if u == t then (row_of f t c).own else (row_of f t c).others u
 
--- accepted: the endings are those of the row, in rising thread number; refused: only the caller gets a
--- completion, with its buffer
+-- for true, the call is accepted, and the completions are the row's, in rising thread number. For false, the
+-- call fails, and the only completion is the caller's, with its buffer.
 abbrev pub Outcome : Bool → Facts → ThreadNo → Call → List Completion → Type 0
-Outcome true f t c endings =
-    (refusal_of f t c ≡ None) × (endings ≡ filter_map (completion_to f t c) (threads_of f.roster))
-Outcome false f t c endings = (e : Errno) × MayRefuse f t c e
-    × (endings ≡ own_completion f t (mark.Failed e) (buffer_of c) ∷ [])
+Outcome true f t c completions =
+    (refusal_of f t c ≡ None) × (completions ≡ filter_map (completion_to f t c) (threads_of f.roster))
+Outcome false f t c completions = (e : Errno) × MayRefuse f t c e
+    × (completions ≡ own_completion f t (mark.Failed e) (buffer_of c) ∷ [])
 
--- these endings answer the call
+-- these completions are right for the call: it is accepted, or it fails
 abbrev pub Answers : Facts → ThreadNo → Call → List Completion → Type 0
-Answers f t c endings = Outcome true f t c endings ⊎ Outcome false f t c endings
+Answers f t c completions = Outcome true f t c completions ⊎ Outcome false f t c completions

@@ -1,4 +1,4 @@
--- Searches in the list of all past calls.
+-- Searches in a history.
 use Rattle.std.specs.Prelude.{◌&&◌, ◌+◌, ◌==◌, ◌||◌, ◌∷◌, if◌then◌else◌}
 use Rattle.qrules.specs.Words.{[], false, filter, find, is_pulse, is_some, lay_over, length}
 use Rattle.qrules.specs.Words.{list_any, map, member_at, not, option_and_then, option_map, option_map_or}
@@ -15,93 +15,95 @@ use Rattle.qrules.specs.Words.what
 
 -- ---- accepted calls
 
--- the mark is a failure
+-- the result is a failure
 abbrev pub is_failure : Mark → Bool
 is_failure (mark.Failed errno) = true
 is_failure other = false
 
--- the event after this past was accepted: none of its endings is its own failure
+-- the call of event e, which comes next after this history, was accepted: none of e's completions is a
+-- failure of that call
 abbrev pub is_accepted : Event → Trace → Bool
-is_accepted e past = not (list_any (λ x. (x.call == length past + 1) && is_failure x.mark) e.endings)
+is_accepted e past = not (list_any (λ x. (x.call == length past + 1) && is_failure x.mark) e.completions)
 
--- what this says of the event of number i, if that was accepted
+-- the value of the function for event i; None if there is no event i or its call wasn't accepted
 abbrev pub accepted_at : {A : Type 0} → (Event → Option A) → Trace → CallNo → Option A
 accepted_at say [] i = None
 accepted_at say (e ∷ past) i = if i == length past + 1 then (if is_accepted e past then say e else None)
     else accepted_at say past i
 
--- an accepted call had an effect for which the condition is true
+-- some accepted call had an effect for which the condition is true
 abbrev pub was_done : (Effect → Bool) → Trace → Bool
 was_done is_such [] = false
 was_done is_such (e ∷ past) = (is_accepted e past && is_such (effect_of e.call)) || was_done is_such past
 
--- the number is this one
+-- there is a number, and it is i
 abbrev pub is_number : Option ℕ → ℕ → Bool
 is_number number i = option_map_or (λ n. n == i) number false
 
--- ---- endings and receipts
+-- ---- completions and receipts
 
--- call i is ended
+-- call i has completed
 abbrev pub is_ended : Trace → CallNo → Bool
-is_ended past i = list_any (λ e. list_any (λ x. x.call == i) e.endings) past
+is_ended past i = list_any (λ e. list_any (λ x. x.call == i) e.completions) past
 
--- an item that is received, and how many bytes were copied, 0 for a pulse
+-- a received item: its number, and how many bytes were copied, which is 0 for a pulse
 pub record ReceivedItem : Type 0 where
   pub number : CallNo
   pub copied : ℕ
 
--- the item that a completion with this mark receives
+-- the item that a completion with this result receives; None if it receives none
 abbrev pub item_in : Mark → Option ReceivedItem
 item_in (mark.Message rcvid copied) = Some (record { number = rcvid; copied = copied })
 item_in (mark.Pulse item priority what) = Some (record { number = item; copied = 0 })
 item_in other = None
 
--- the first value that this says of these endings
+-- the first value that the function gives for these completions
 abbrev pub first_among : {A : Type 0} → (Completion → Option A) → List Completion → Option A
 first_among say [] = None
-first_among say (x ∷ endings) = option_or (say x) (first_among say endings)
+first_among say (x ∷ completions) = option_or (say x) (first_among say completions)
 
--- how many bytes of item i were copied, if it is received
+-- how many bytes of item i were copied at its receipt; None if it hasn't been received
 abbrev pub copied_count_of : Trace → CallNo → Option ℕ
 copied_count_of [] i = None
 copied_count_of (e ∷ past) i = option_or (first_among
-    (λ x. option_and_then (λ r. if r.number == i then Some r.copied else None) (item_in x.mark)) e.endings)
+    (λ x. option_and_then (λ r. if r.number == i then Some r.copied else None) (item_in x.mark))
+    e.completions)
     (copied_count_of past i)
 
--- item i is received
+-- item i has been received
 abbrev pub is_received : Trace → CallNo → Bool
 is_received past i = is_some (copied_count_of past i)
 
 -- ---- channels and connections
 
--- channel h is destroyed
+-- channel h has been destroyed
 abbrev pub is_destroyed : Trace → ChannelId → Bool
 is_destroyed past h = was_done (λ e. is_number e.destroys h) past
 
--- channel h as it was created, owned by its thread's process
+-- channel h as it was created, owned by the process of the thread that created it
 abbrev pub created_channel : List Member → Trace → ChannelId → Option OpenChannel
 created_channel roster past h = accepted_at (λ e. option_and_then
     (λ m. option_map (λ flags. record { owner = m.process; flags = flags }) (effect_of e.call).creates)
     (member_at roster e.thread)) past h
 
--- the open channel h
+-- channel h, if it is open: it was created, and hasn't been destroyed
 abbrev pub channel_at : List Member → Trace → ChannelId → Option OpenChannel
 channel_at roster past h = if is_destroyed past h then None else created_channel roster past h
 
--- connection k as it was attached, by its thread's process
+-- connection k as it was attached, by the process of the thread that attached it
 abbrev pub attached_connection : List Member → Trace → ConnectionId → Option Connection
 attached_connection roster past k = accepted_at (λ e. option_and_then
     (λ m. option_map (λ h. record { process = m.process; channel = h }) (effect_of e.call).attaches)
     (member_at roster e.thread)) past k
 
--- the live connection k
+-- connection k, if it is live: it was attached, and hasn't been detached
 abbrev pub connection_at : List Member → Trace → ConnectionId → Option Connection
 connection_at roster past k =
     if was_done (λ e. is_number e.detaches k) past then None else attached_connection roster past k
 
 -- ---- items
 
--- the one of these items that has number i
+-- the item among these that has number i
 abbrev pub item_among : List SentItem → CallNo → Option SentItem
 item_among items i = find (λ m. m.item.number == i) items
 
@@ -117,7 +119,7 @@ channel_of item = option_map_or (λ m. m.channel) item 0
 abbrev pub sender_of : Trace → ReceiveId → Option ThreadNo
 sender_of past i = accepted_at (λ e. option_map (λ s. e.thread) (effect_of e.call).sends) past i
 
--- the priority that event e sets for thread t
+-- the priority that event e sets for thread t, if its call was accepted
 abbrev pub priority_set_by : Event → Trace → ThreadNo → Option Priority
 priority_set_by e past t = if is_accepted e past
     then option_and_then (λ s. if s.thread == t then Some s.priority else None) (effect_of e.call).sets
@@ -130,42 +132,42 @@ priority_set_since (e ∷ past) i t = if i == length past + 1 then None
     else option_or (if is_received past i then None else priority_set_by e past t)
     (priority_set_since past i t)
 
--- an item's present priority: a priority that is set for a message's sender is the message's, too, until it
--- is received
+-- an item's current priority. A pulse keeps its priority. A message takes each priority that is set for its
+-- sender, until the message is received.
 abbrev pub current_priority : Trace → Item → Priority
 current_priority past item = if is_pulse item.what then item.priority
     else unwrap_or (option_and_then (priority_set_since past item.number) (sender_of past item.number))
     item.priority
 
--- these items with their present priorities
+-- these items with their current priorities
 abbrev pub items_by_now : Trace → List SentItem → List SentItem
 items_by_now past items = map
     (λ m. record { item = with_priority (current_priority past m.item) m.item; channel = m.channel }) items
 
--- the item doesn't wait any more: it is received, or it is a message whose Send is ended
+-- the item is no longer queued: it has been received, or it is a message whose Send has completed
 abbrev pub is_gone : Trace → Item → Bool
 is_gone past item = is_received past item.number || (not (is_pulse item.what) && is_ended past item.number)
 
--- those of these items that wait on channel h to be received
+-- the items among these that are queued on channel h; none if the channel has been destroyed
 abbrev pub pending_among : Trace → List SentItem → ChannelId → List Item
 pending_among past items h = if is_destroyed past h then []
     else filter (λ item. not (is_gone past item)) (map (λ m. m.item) (filter (λ m. m.channel == h) items))
 
 -- ---- open calls
 
--- the reply buffer of message i with what is written over it
+-- the reply buffer of message i after this Write, if there is one and it is to message i
 abbrev pub buffer_after_write : Option Transfer → ReceiveId → Bytes → Bytes
 buffer_after_write written i b =
     option_map_or (λ w. if w.rcvid == i then lay_over b w.offset w.bytes else b) written b
 
--- a reply buffer of message i with each accepted Write to it, in order
+-- the reply buffer of message i, which was b at its Send, after each accepted Write to it, in order
 abbrev pub with_writes : Trace → ReceiveId → Bytes → Bytes
 with_writes [] i b = b
 with_writes (e ∷ past) i b =
     if is_accepted e past then buffer_after_write (effect_of e.call).writes i (with_writes past i b)
     else with_writes past i b
 
--- the thread of an event whose call may wait
+-- the thread of the event, if its call may block: a Send or a receive
 abbrev pub waiter : Event → Option ThreadNo
 waiter e = if is_some (effect_of e.call).sends || is_some (effect_of e.call).receives then Some e.thread
     else None
@@ -175,8 +177,8 @@ abbrev pub is_unblock_for : ReceiveId → What → Bool
 is_unblock_for i (what.Unblock rcvid) = rcvid == i
 is_unblock_for i other = false
 
--- the open call in which call n of thread t leaves it if it doesn't end in its own event; a Send is open on
--- channel h
+-- the open call in which call n leaves thread t, unless it completes in its own event; None if it is neither
+-- a Send nor a receive. A Send is open on channel h.
 abbrev pub asks : CallNo → ThreadNo → ChannelId → Call → Option OpenCall
 asks n t h c = option_or
     (option_map (λ s. Send (record {
@@ -196,14 +198,16 @@ asks n t h c = option_or
       buffer = r.buffer;
     })) (effect_of c).receives)
 
--- the open call in which the newest accepted blocking call of thread t left it, given all items
+-- the open call that thread t's newest accepted Send or receive began, even if that has completed by now. The
+-- items are all items made so far; they give the channel of a Send.
 abbrev pub newest_block : List SentItem → Trace → ThreadNo → Option OpenCall
 newest_block items [] t = None
 newest_block items (e ∷ past) t =
     let n = length past + 1 in let asked = asks n t (channel_of (item_among items n)) e.call in
     if (e.thread == t) && is_accepted e past && is_some asked then asked else newest_block items past t
 
--- an open Send as it is by now: with all that was written over its reply buffer, and with its receipt
+-- an open Send in its current state: its reply buffer after all Writes, and the receipt of its message. The
+-- items have their current priorities.
 abbrev pub send_by_now : Trace → List SentItem → OpenSend → OpenSend
 send_by_now past items s = record s {
   reply_buffer = with_writes past s.number s.reply_buffer;
@@ -214,13 +218,13 @@ send_by_now past items s = record s {
   }) (copied_count_of past s.number);
 }
 
--- an open call as it is by now
+-- an open call in its current state
 abbrev pub call_by_now : Trace → List SentItem → OpenCall → OpenCall
 call_by_now past items (Send s) = Send (send_by_now past items s)
 call_by_now past items (Receive r) = Receive r
 
--- the open call of thread t, given all items with their present priorities: its newest blocking call, unless
--- that is ended
+-- the open call of thread t: its newest accepted Send or receive, unless that has completed. The items are
+-- all items made so far, with their current priorities.
 abbrev pub open_call_by : Trace → List SentItem → ThreadNo → Option OpenCall
 open_call_by past items t = option_map (call_by_now past items)
     (option_and_then (λ o. if is_ended past (number_of o) then None else Some o) (newest_block items past t))

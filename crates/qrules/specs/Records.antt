@@ -1,12 +1,12 @@
--- Words over the kernel's own records, which contracts of inner functions and the records that
--- `Kernel::threads` lends cite.
+-- Definitions over the kernel's own records. Contracts of inner functions cite them, and so do contracts
+-- about the records that `Kernel::threads` lends.
 use Rattle.std.specs.Option.{option_and_then, option_map, option_map_or}
 use Rattle.std.specs.Prelude.{ℕ, ℤ, pos, ◌==◌, ◌&&◌, not, is_some, nat_lt, count_by, find, Bool, false, true}
 use Rattle.std.specs.Prelude.{List}
 use Rattle.std.specs.Prelude.{[], Option, None, Some, if◌then◌else◌}
 use Rattle.std.specs.List.{list_any}
 use Rattle.std.specs.Ordering.{int_eq}
-use Rattle.qbase.specs.Laying.{lay_over}
+use Rattle.qbase.specs.Copying.{lay_over}
 use Rattle.qbase.specs.declared.errno.Errno.{Errno}
 use Rattle.qqueue.specs.Best.{is_pulse}
 use Rattle.qqueue.specs.declared.item.Item.{Item}
@@ -32,58 +32,58 @@ use Rattle.qrules.specs.Rules.Threads.{state_in}
 
 -- ---- threads and channels
 
--- the member is of this process
+-- there is a member, and it is of process p
 abbrev pub is_in_process : ProcessNo → Option Member → Bool
 is_in_process p m = option_map_or (λ m. m.process == p) m false
 
--- the thread is this one
+-- there is a thread, and it is thread u
 abbrev pub is_thread : Option ThreadNo → ThreadNo → Bool
 is_thread None u = false
 is_thread (Some s) u = u == s
 
--- the channel has the flag that leaves its receivers' priorities as they are
+-- the channel is open and has FIXED_PRIORITY, so a receipt doesn't change the receiver's priority
 abbrev pub is_fixed : Option OpenChannel → Bool
 is_fixed channel = has_flag 1 channel
 
--- the channel has the unblock flag
+-- the channel is open and has the unblock flag
 abbrev pub tells_unblock : Option OpenChannel → Bool
 tells_unblock channel = has_flag 2 channel
 
--- the channel has the disconnect flag
+-- the channel is open and has the disconnect flag
 abbrev pub tells_disconnect : Option OpenChannel → Bool
 tells_disconnect channel = has_flag 4 channel
 
 -- ---- open Sends
 
--- the open call is a Send whose message isn't received
+-- the open call is a Send whose message hasn't been received
 abbrev pub is_for_receipt : OpenCall → Bool
 is_for_receipt (Send s) = not (is_some s.receipt)
 is_for_receipt (Receive r) = false
 
--- the open call is the Send of number i, blocked on channel h, and not received
+-- there is an open call: the Send of number i, on channel h, whose message hasn't been received
 abbrev pub is_unread_send : ChannelId → ReceiveId → Option OpenCall → Bool
 is_unread_send h i call =
     option_map_or (λ o. (number_of o == i) && is_for_receipt o && is_on h o) call false
 
--- the message of an open Send
+-- the message of an open call; it is empty for a receive
 abbrev pub message_of : OpenCall → List ℕ
 message_of (Send s) = s.message
 message_of (Receive r) = []
 
--- the message of a Send that is open
+-- the message of an open call; it is empty for a receive, and if there is no open call
 abbrev pub message_in : Option OpenCall → List ℕ
 message_in call = option_map_or message_of call []
 
--- the reply buffer of an open Send
+-- the reply buffer of an open call; it is empty for a receive
 abbrev pub reply_buffer_of : OpenCall → List ℕ
 reply_buffer_of (Send s) = s.reply_buffer
 reply_buffer_of (Receive r) = []
 
--- the reply buffer of a Send that is open
+-- the reply buffer of an open call; it is empty for a receive, and if there is no open call
 abbrev pub reply_buffer_in : Option OpenCall → List ℕ
 reply_buffer_in call = option_map_or reply_buffer_of call []
 
--- the data of a member's message; None if its open call isn't a Send whose message is received
+-- the data of a member's message; None unless its open call is a Send whose message has been received
 abbrev pub info_of_open : Member → Option OpenCall → Option Info
 info_of_open m call = option_and_then (info_of_call m) call
 
@@ -91,21 +91,21 @@ info_of_open m call = option_and_then (info_of_call m) call
 abbrev pub sender_among : (ThreadNo → Option OpenCall) → ReceiveId → List ThreadNo → Option ThreadNo
 sender_among open_call i threads = find (λ u. is_send i (open_call u)) threads
 
--- an open call whose message is received
+-- the open call once its message has been received; a receive stays the same
 abbrev pub held_call : Receipt → OpenCall → OpenCall
 held_call kept (Send s) = Send (record s { receipt = Some kept })
 held_call kept (Receive r) = Receive r
 
--- an open call with its reply buffer changed
+-- the open call with its reply buffer changed; a receive stays the same
 abbrev pub with_buffer : (List ℕ → List ℕ) → OpenCall → OpenCall
 with_buffer f (Send s) = Send (record s { reply_buffer = f s.reply_buffer })
 with_buffer f (Receive r) = Receive r
 
--- an open call whose reply buffer is written over
+-- the open call after a Write copied these bytes over its reply buffer from the offset on
 abbrev pub written_call : ℕ → List ℕ → OpenCall → OpenCall
 written_call offset bytes o = with_buffer (λ b. lay_over b offset bytes) o
 
--- an open call for whose message an unblock pulse is made
+-- the open call after an unblock pulse was made for its message
 abbrev pub unblocked_call : OpenCall → OpenCall
 unblocked_call (Send s) =
     Send (record s { receipt = option_map (λ (r : Receipt). record r { unblocked = true }) s.receipt })
@@ -113,26 +113,26 @@ unblocked_call (Receive r) = Receive r
 
 -- ---- open receives
 
--- the number of a thread's open call, if it waits for such an item
+-- the number of a thread's open call, if it is a receive on channel h that may take the item
 abbrev pub wait_on : ChannelId → Item → Option OpenCall → Option CallNo
 wait_on h item call = option_and_then (wait_for h item) call
 
--- there is such a call, and it is later than call m
+-- there is a call, and it is later than call m
 abbrev pub is_after : CallNo → Option CallNo → Bool
 is_after m number = option_map_or (λ n. nat_lt m n) number false
 
--- none of these threads waits for such an item in a call later than m
+-- none of these threads waits on channel h for the item in a call later than m
 abbrev pub is_last_wait : (ThreadNo → Option OpenCall) → ChannelId → Item → List ThreadNo → CallNo → Bool
 is_last_wait open_call h item threads m =
     not (list_any (λ v. is_after m (wait_on h item (open_call v))) threads)
 
--- thread u waits for such an item, and none of these threads does so in a later call
+-- thread u waits on channel h for the item, and none of these threads waits for it in a later call
 abbrev pub is_newest : (ThreadNo → Option OpenCall) → ChannelId → Item → List ThreadNo → ThreadNo → Bool
 is_newest open_call h item threads u =
     option_map_or (is_last_wait open_call h item threads) (wait_on h item (open_call u)) false
 
--- the one of these threads whose open receive has the greatest number, of those on channel h that may take
--- the item
+-- the newest receiver among these threads: of their open receives on channel h that may take the item, its
+-- receive has the greatest number
 abbrev pub newest_receiver_among : (ThreadNo → Option OpenCall) → ChannelId → Item → List ThreadNo
     → Option ThreadNo
 newest_receiver_among open_call h item threads =
@@ -144,33 +144,34 @@ abbrev pub receive_of : Kind → ChannelId → List ℕ → Call
 receive_of Any chid buffer = calls.Receive chid buffer
 receive_of PulseOnly chid buffer = calls.ReceivePulse chid
 
--- ---- how open calls end
+-- ---- how open calls complete
 
--- the buffer that an open call gets back; empty if there is none
+-- the buffer that an open call gets back; it is empty if there is no open call
 abbrev pub buffer_of_open : Option OpenCall → List ℕ
 buffer_of_open call = option_map_or buffer_in call []
 
--- the completion of an open call that takes the item, if it is a receive
+-- the completion by which thread u's open call takes the item, if the call is a receive
 abbrev pub takes_into : Item → List ℕ → ThreadNo → OpenCall → Option Completion
 takes_into item message u (Send s) = None
 takes_into item message u (Receive r) = Some (receipt_completion item message u r.number r.buffer)
 
--- the completion of thread u's open call, which takes the item
+-- the completion by which thread u's open call takes the item, if there is an open call and it is a receive
 abbrev pub takes : Item → List ℕ → ThreadNo → Option OpenCall → Option Completion
 takes item message u call = option_and_then (takes_into item message u) call
 
--- the completion of thread u's open call, if it is one that is cancelled
+-- the completion of thread u's open call, if the condition is true for the call: the call is cancelled with
+-- error e
 abbrev pub cancel_where : (OpenCall → Bool) → Errno → ThreadNo → Option OpenCall → Option Completion
 cancel_where is_cancelled e u call =
     option_and_then (λ o. if is_cancelled o then Some (cancel_call e u o) else None) call
 
--- the mark of a Send that is answered with a code
+-- the result of a Send whose message gets an Error with this code
 abbrev pub error_mark : ℤ → Mark
 error_mark code = if int_eq code (pos 0) then mark.Replied (pos 0) 0 else mark.Errored code
 
--- ---- items, and what is told
+-- ---- pulses, and blocked threads
 
--- how many pulses are pending
+-- how many of these items are pulses
 abbrev pub pulses_among : List Item → ℕ
 pulses_among items = count_by (λ x. is_pulse x.what) items
 

@@ -1,4 +1,4 @@
--- The list of all past calls, and definitions that depend only on it.
+-- The history of a kernel, the list of its events, and definitions that depend only on it.
 use Rattle.std.specs.Prelude.{◌+◌, ◌<◌, ◌==◌, ◌∷◌, ◌≡◌, if◌then◌else◌}
 use Rattle.qrules.specs.Words.{[], false, flat_map, length, list_any, AllByRecursion, Bool, Call, Completion}
 use Rattle.qrules.specs.Words.{List, None, Option, Some, ℕ}
@@ -9,12 +9,12 @@ pub use Rattle.qmodel.specs.Trace.{ReceiveId, SentItem, ThreadNo, Trace}
 abbrev pub Bytes : Type 0
 Bytes = List ℕ
 
--- P holds of each event, together with the events before it
+-- P holds for each event, together with the events before it
 abbrev pub InEachEvent : (Trace → Event → Type 0) → Trace → Type 0
 InEachEvent P [] = Unit {0}
 InEachEvent P (e ∷ past) = InEachEvent P past × P past e
 
--- the past followed by these events, which are given with the oldest first
+-- the history extended by these events, which are listed with the oldest first
 abbrev pub followed_by : Trace → List Event → Trace
 followed_by past [] = past
 followed_by past (e ∷ events) = followed_by (e ∷ past) events
@@ -29,22 +29,23 @@ abbrev pub thread_at : Trace → CallNo → Option ThreadNo
 thread_at [] i = None
 thread_at (e ∷ past) i = if i == length past + 1 then Some e.thread else thread_at past i
 
--- all endings so far
-abbrev pub endings_of : Trace → List Completion
-endings_of past = flat_map (λ e. e.endings) past
+-- all completions so far
+abbrev pub completions_of : Trace → List Completion
+completions_of past = flat_map (λ e. e.completions) past
 
--- ---- the endings of one event
+-- ---- the completions of one event
 
--- thread t gets one of these endings
+-- one of these completions is thread t's
 abbrev pub gets : List Completion → ThreadNo → Bool
-gets endings t = list_any (λ x. x.thread == t) endings
+gets completions t = list_any (λ x. x.thread == t) completions
 
--- no thread gets two of these endings
+-- no thread has two of these completions
 abbrev pub AreApart : List Completion → Type 0
 AreApart [] = Unit {0}
-AreApart (x ∷ endings) = (gets endings x.thread ≡ false) × AreApart endings
+AreApart (x ∷ completions) = (gets completions x.thread ≡ false) × AreApart completions
 
--- these endings are in rising thread number
+-- these completions are in rising thread number
 abbrev pub RiseByThread : List Completion → Type 0
 RiseByThread [] = Unit {0}
-RiseByThread (x ∷ endings) = AllByRecursion (λ y. x.thread < y.thread) endings × RiseByThread endings
+RiseByThread (x ∷ completions) = AllByRecursion (λ y. x.thread < y.thread) completions
+    × RiseByThread completions

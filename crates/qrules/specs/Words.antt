@@ -1,5 +1,5 @@
--- The words of the library, of the tables and of the calls that the definitions use. Declares none of its
--- own.
+-- The names of the library, of the tables and of the calls that the definitions use. The module defines none
+-- itself.
 -- A module `declared` has the types of the Rattle code as the prover sees them: bytes are a list of numbers.
 pub use Rattle.std.specs.Prelude.{not, Bool, true, false, IsTrue, ℕ, ℤ, pos, nat_lt, int_lt, bit_and}
 pub use Rattle.std.specs.Prelude.{Option, None, Some, is_some, unwrap_or, option_map, option_and_then}
@@ -9,7 +9,7 @@ pub use Rattle.std.specs.Prelude.{List, [], length, drop, reverse, map, filter, 
 pub use Rattle.std.specs.Prelude.{count_by, fold, slice_get}
 pub use Rattle.std.specs.List.{AllByRecursion, list_any, reduce}
 pub use Rattle.std.specs.Ordering.{int_eq}
-pub use Rattle.qbase.specs.Laying.{laid_count, lay_over}
+pub use Rattle.qbase.specs.Copying.{laid_count, lay_over}
 pub use Rattle.qbase.specs.declared.errno.Errno.{Errno}
 pub use Rattle.qbase.specs.declared.errno.Errno.TheVariants.{Again, Badf, Busy, Down}
 pub use Rattle.qbase.specs.declared.errno.Errno.TheVariants.{Intr, Inval, NoMemory, Srch}

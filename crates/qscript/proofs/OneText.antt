@@ -1,5 +1,7 @@
 -- The text of a run on a new kernel.
-use Rattle.qscript.proofs.Common.{Blocked, Call, HasPrinted, HasRun, IsRoster, IsTextOfRun, List, Member, Printer, Run, StandsAt, State, Trace, [], ap, arith, facts_of, headline_of, members_of, refl, roster_with, sym, ℕ, ◌+◌, ◌∙◌, ◌≡◌, printed}
+use Rattle.qscript.proofs.Common.{Blocked, Call, HasPrinted, HasRun, IsRoster, IsTextOfRun, List, Member, Printer, Run}
+use Rattle.qscript.proofs.Common.{StandsAt, State, Trace, [], ap, arith, facts_of, headline_of, members_of, refl}
+use Rattle.qscript.proofs.Common.{roster_with, sym, ℕ, ◌+◌, ◌∙◌, ◌≡◌, printed}
 use Rattle.qkernel.specs.Blocked.{blocked_threads}
 use Rattle.qrules.specs.Trace.{followed_by}
 
@@ -7,9 +9,11 @@ same_run : (a b : Run) → a.first ≡ b.first → a.events ≡ b.events → a �
 same_run a b first events = grind (arith, first, events)
 
 -- the text of calls that were made one after another, each printed at once
-pub text_of_calls : (roster : List Member) (calls : List (ℕ × Call)) (old new : State) (p : Printer) (blocked : List Blocked) (text : List ℕ)
+pub text_of_calls : (roster : List Member) (calls : List (ℕ × Call)) (old new : State) (p : Printer)
+    (blocked : List Blocked) (text : List ℕ)
     → StandsAt (roster_with [] roster) old [] → IsRoster (members_of old.threads) → HasRun old calls new p
-    → ((members : List Member) (past : Trace) → StandsAt members new past → blocked ≡ blocked_threads (facts_of members past))
+    → ((members : List Member) (past : Trace) → StandsAt members new past
+    → blocked ≡ blocked_threads (facts_of members past))
     → ((run : Run) → HasPrinted run p → text ≡ printed run blocked) → IsTextOfRun roster calls text
 text_of_calls roster calls old new p blocked text stands rises made left is =
     let run : Run = record { first = old.made + 1; events = made.events } in
@@ -18,10 +22,22 @@ text_of_calls roster calls old new p blocked text stands rises made left is =
     record {
       run = run;
       blocked = blocked;
-      ran = record { rising = well.rising; first = well.first; made = made.made; lawful = well.lawful; properties = well.properties; left = here };
+      ran = record {
+        rising = well.rising;
+        first = well.first;
+        made = made.made;
+        lawful = well.lawful;
+        properties =
+            well.properties;
+        left = here;
+      };
       printed_so = is run made.text;
       only = λ had other others ran held.
           let events = well.only had other.events (ran.made ∙ sym made.made) ran.lawful held in
-          let same : others ≡ blocked = ran.left ∙ ap (λ es. blocked_threads (facts_of (roster_with [] roster) (followed_by [] es))) events ∙ sym here in
-          rw (same, is run made.text) (ap (λ r. printed r blocked) (same_run other run (ran.first ∙ sym well.first) events));
+          let same : others ≡ blocked = ran.left
+          ∙ ap (λ es. blocked_threads (facts_of (roster_with [] roster) (followed_by [] es))) events ∙ sym here in
+          rw (
+            same,
+            is run made.text,
+          ) (ap (λ r. printed r blocked) (same_run other run (ran.first ∙ sym well.first) events));
     }

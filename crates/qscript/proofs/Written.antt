@@ -1,4 +1,4 @@
--- Scripts that are written.
+-- Written scripts.
 pub mod Words
 pub mod Numbers
 pub mod Bytes

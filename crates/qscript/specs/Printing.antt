@@ -6,4 +6,4 @@ pub mod Buffer
 pub mod OpenLine
 pub mod Printed
 pub mod Printer
-pub mod Laws
+pub mod PrintingLaws

@@ -11,9 +11,9 @@ use Rattle.qkernel.specs.Run.{AllKnown}
 use Rattle.qrules.specs.Properties.{HasProperties}
 use Rattle.qrules.specs.Lawful.{event_call, facts_of, HadMemory, IsLawful}
 use Rattle.qrules.specs.Trace.{followed_by}
-use Rattle.qreading.specs.declared.fault.LineFault.{LineFault}
+use Rattle.qscript_text.specs.declared.fault.LineFault.{LineFault}
 use Rattle.qscript.specs.Enrolled.{roster_with, AllJoin}
-use Rattle.qreading.specs.Reading.Meaning.{meaning, Says, Faulty}
+use Rattle.qscript_text.specs.Reading.Meaning.{meaning, Says, Faulty}
 use Rattle.qscript.specs.Printing.Printed.{printed}
 use Rattle.qscript.specs.Transfer.{IsReading, FailsWithin, IsOverfull, StopsWithin}
 
@@ -23,8 +23,8 @@ pub record CanRun (roster : List Member) (calls : List (ℕ × Call)) : Type 0 w
   pub callers : AllKnown (roster_with [] roster) calls
   pub few : length calls ≤ 2 ^ 40
 
--- a run of just these calls, lawful from the first call on, and the threads that are blocked after it; the
--- roster's threads are in rising number, which the laws of lawful traces require
+-- a run of exactly these calls, valid from its first call on, and the threads that are blocked after it. The
+-- roster's threads are in rising order, which the laws about valid histories require
 pub record IsRunOf (roster : List Member) (calls : List (ℕ × Call)) (run : Run)
     (blocked : List Blocked) : Type 0 where
   pub rising : IsRoster (roster_with [] roster)
@@ -34,7 +34,7 @@ pub record IsRunOf (roster : List Member) (calls : List (ℕ × Call)) (run : Ru
   pub properties : HasProperties (roster_with [] roster) (followed_by [] run.events)
   pub left : blocked ≡ blocked_threads (facts_of (roster_with [] roster) (followed_by [] run.events))
 
--- the text of such a run; if no call was refused for lack of memory, it is the text of each other such run
+-- the text of such a run; if no call is refused for lack of memory, all such runs have this text
 pub record IsTextOfRun (roster : List Member) (calls : List (ℕ × Call)) (text : List ℕ) : Type 0 where
   pub run : Run
   pub blocked : List Blocked
@@ -58,11 +58,11 @@ pub record IsRun (reader reader_after writer writer_after : Option (List ℕ)) :
   pub runs : Runs input text
   pub written : Appends writer writer_after text
 
--- the reader failed before it gave more than the most bytes of a script
+-- the reader failed before it gave more bytes than a script may have
 abbrev pub IsUnread : Option (List ℕ) → Option (List ℕ) → Bool → Type 0
 IsUnread reader reader_after faulted = (input : List ℕ) × FailsWithin reader reader_after faulted input
 
--- the reader gave more than the most bytes of a script before it failed
+-- the reader gave more bytes than a script may have before it failed
 abbrev pub IsTooLong : Option (List ℕ) → Option (List ℕ) → Bool → Type 0
 IsTooLong reader reader_after faulted = (input : List ℕ) × IsOverfull reader reader_after faulted input
 
@@ -72,7 +72,7 @@ pub record IsFaulty (reader reader_after : Option (List ℕ)) (n : ℕ) (f : Lin
   pub read : IsReading reader reader_after input
   pub meant : meaning input ≡ Faulty n f
 
--- all of the input was read, and a front of the run's text was written before the writer failed
+-- all of the input was read, and bytes from the front of the run's text were written before the writer failed
 pub record IsCut (reader reader_after writer writer_after : Option (List ℕ)) (faulted : Bool) : Type 0 where
   pub input : List ℕ
   pub text : List ℕ

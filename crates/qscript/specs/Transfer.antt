@@ -1,11 +1,11 @@
 -- Reading to the end, and writing all bytes.
 use Rattle.std.specs.Prelude.{◌≡◌, ℕ, ◌<◌, ◌≤◌, Bool, true, false, List, length, take, Option}
 use Rattle.std.specs.Io.KnownBytes.{Consumes, Appends, IsAtEnd}
-use Rattle.qreading.specs.declared.fault.ScriptFault.{ScriptFault}
-use Rattle.qreading.specs.declared.fault.ScriptFault.TheVariants as faults
-use Rattle.qreading.specs.TextLimit.{most_text}
+use Rattle.qscript_text.specs.declared.fault.ScriptFault.{ScriptFault}
+use Rattle.qscript_text.specs.declared.fault.ScriptFault.TheVariants as faults
+use Rattle.qscript_text.specs.TextLimit.{most_text}
 
--- a reader gave these bytes, and then its end
+-- a reader gave these bytes, at most as many as a script may have, and then its end
 pub record IsReading (before after : Option (List ℕ)) (bytes : List ℕ) : Type 0 where
   pub given : Consumes before after bytes
   pub ended : IsAtEnd after
@@ -28,10 +28,10 @@ abbrev pub IsReadFault : ScriptFault → Option (List ℕ) → Option (List ℕ)
 IsReadFault faults.Read before after faulted = (bytes : List ℕ) × FailsWithin before after faulted bytes
 IsReadFault faults.TooLong before after faulted = (bytes : List ℕ) × IsOverfull before after faulted bytes
 IsReadFault faults.NoMemory before after faulted = Unit {0}
-IsReadFault (faults.Line n f) before after faulted = ⊥
+IsReadFault (faults.ScriptLine n f) before after faulted = ⊥
 IsReadFault faults.Write before after faulted = ⊥
 
--- a writer took a front of the bytes, and then failed
+-- a writer took some bytes from the front, perhaps none or all of them, and then failed
 pub record StopsWithin (before after : Option (List ℕ)) (faulted : Bool) (bytes : List ℕ) : Type 0 where
   pub count : ℕ
   pub within : count ≤ length bytes

@@ -1,4 +1,4 @@
 -- Writing scripts.
 pub mod Line
 pub mod Text
-pub mod Laws
+pub mod WritingLaws

@@ -1,5 +1,5 @@
-//! Scripts of kernel calls: runs one on a new kernel and prints the run, and writes the script of a run that was made
-//! elsewhere.
+//! Scripts of kernel calls: runs a script on a new kernel and prints the run. Also writes the script of a run
+//! that was made elsewhere.
 #![tactic(auto)]
 
 pub mod printing;
@@ -9,4 +9,4 @@ pub mod transfer;
 pub mod watched;
 pub mod writing;
 
-pub use qreading::{MOST_TEXT, Script, fault, parse};
+pub use qscript_text::{MOST_TEXT, Script, fault, parse};

@@ -1,27 +1,28 @@
 //! Runs a script, from a reader to a writer.
 
-ghost use Rattle.std.specs.Prelude.{◌≡◌, ℕ, ◌+◌, ◌≤◌, ◌^◌, [], length, IfOk, IfErr, OnOk, IsErrOf, false, string_bytes};
+ghost use Rattle.std.specs.Prelude.{◌≡◌, ℕ, ◌+◌, ◌≤◌, ◌^◌, [], length, IfOk, IfErr, OnOk, IsErrOf, false};
+ghost use Rattle.std.specs.Prelude.{string_bytes};
 ghost use Rattle.qkernel.specs.Run.{AllKnown};
-ghost use Rattle.qstate.specs.Kept.{members_of};
+ghost use Rattle.qkernel_state.specs.Kept.{members_of};
 ghost use Rattle.qscript.specs.Running.{HasMade};
 ghost use Rattle.qscript.specs.Enrolled.{roster_with, AllJoin};
 ghost use Rattle.qscript.specs.Script.{CanRun, IsTextOfRun, IsRun, IsUnread, IsTooLong, IsFaulty, IsCut};
 ghost use Rattle.qscript.specs.Watched.{inner_of, has_faulted};
-ghost use Rattle.qreading.specs.declared.fault.LineFault.{LineFault};
+ghost use Rattle.qscript_text.specs.declared.fault.LineFault.{LineFault};
 
 use crate::run::Run;
 use crate::transfer::{read_all, write_all};
 use crate::watched::Watched;
 use qbase::ids::ThreadNo;
 use qkernel::call::Call;
-use qreading::fault::ScriptFault;
-use qreading::reading::script::{Script, parse};
+use qscript_text::fault::ScriptFault;
+use qscript_text::reading::script::{Script, parse};
 use qtables::member::Member;
 use qtables::roster::Roster;
 use std::alloc::{AllocError, Global};
 use std::io::{Read, Write};
 
-/// Returns the roster of these threads. One that comes twice, and those behind the 64th, are left out.
+/// Returns the roster of these threads. A repeated thread is left out, and so are the threads after the 64th.
 #[tactic(auto, using(crate::proofs::Joining::joins_at, crate::proofs::Joining::enrolled_next))]
 pub fn roster_with_all(alloc: Global, members: &[Member]) -> Roster
     ensures { AllJoin [] members.now → result ≡ roster_with [] members.now }
@@ -33,7 +34,7 @@ pub fn roster_with_all(alloc: Global, members: &[Member]) -> Roster
     roster
 }
 
-/// Makes the calls in order, and prints the endings of each at once.
+/// Makes the calls in order, and prints the completions of each call at once.
 fn make_calls(run: &mut Run, calls: Vec<(ThreadNo, Call)>) -> Result<(), AllocError>
     requires known { AllKnown (members_of run.old.kernel.threads) calls.items }
     requires limit { run.old.kernel.made + length calls.items ≤ 2 ^ 40 }
@@ -51,7 +52,8 @@ fn make_calls(run: &mut Run, calls: Vec<(ThreadNo, Call)>) -> Result<(), AllocEr
 /// Returns the text of the run of a script on a new kernel.
 fn run_text(alloc: Global, script: Script) -> Result<String, ScriptFault>
     requires { CanRun script.roster.items script.calls.items }
-    ensures ok { IfOk result (λ text. IsTextOfRun script.roster.items script.calls.items (string_bytes text)) }
+    ensures ok { IfOk result
+        (λ text. IsTextOfRun script.roster.items script.calls.items (string_bytes text)) }
     ensures err { IfErr result (λ e. e ≡ ScriptFault.NoMemory) }
 {
     let roster = roster_with_all(alloc, script.roster.as_slice());
@@ -61,9 +63,9 @@ fn run_text(alloc: Global, script: Script) -> Result<String, ScriptFault>
     Ok(text)
 }
 
-/// Reads a script to its end, makes its calls on a new kernel, and writes how each of them ended and who is blocked at
-/// the end. It writes nothing before the whole text is made. If the reader fails and the text is too long, the error is
-/// the one that came first.
+/// Reads a script to its end, makes its calls on a new kernel, and writes their completions and the threads
+/// that are blocked at the end. Nothing is written before the whole text is complete. If the reader fails and
+/// the text is too long, the error that occurred first is returned.
 pub fn script<R: Read, W: Write>(
     alloc: Global,
     reader: &mut Watched<R>,
@@ -74,11 +76,14 @@ pub fn script<R: Read, W: Write>(
     ensures ok { OnOk result (IsRun (R.remaining (inner_of reader.old)) (R.remaining (inner_of reader.new))
         (W.contents (inner_of writer.old)) (W.contents (inner_of writer.new))) }
     ensures read { IsErrOf result ScriptFault.Read →
-        IsUnread (R.remaining (inner_of reader.old)) (R.remaining (inner_of reader.new)) (has_faulted reader.new) × (writer.new ≡ writer.old) }
+        IsUnread (R.remaining (inner_of reader.old)) (R.remaining (inner_of reader.new))
+        (has_faulted reader.new) × (writer.new ≡ writer.old) }
     ensures too_long { IsErrOf result ScriptFault.TooLong →
-        IsTooLong (R.remaining (inner_of reader.old)) (R.remaining (inner_of reader.new)) (has_faulted reader.new) × (writer.new ≡ writer.old) }
+        IsTooLong (R.remaining (inner_of reader.old)) (R.remaining (inner_of reader.new))
+        (has_faulted reader.new) × (writer.new ≡ writer.old) }
     ensures line { (n : ℕ) (f : LineFault) → IsErrOf result (ScriptFault.Line n f) →
-        IsFaulty (R.remaining (inner_of reader.old)) (R.remaining (inner_of reader.new)) n f × (writer.new ≡ writer.old) }
+        IsFaulty (R.remaining (inner_of reader.old)) (R.remaining (inner_of reader.new)) n f
+        × (writer.new ≡ writer.old) }
     ensures memory { IsErrOf result ScriptFault.NoMemory → writer.new ≡ writer.old }
     ensures write { IsErrOf result ScriptFault.Write →
         IsCut (R.remaining (inner_of reader.old)) (R.remaining (inner_of reader.new))

@@ -5,20 +5,23 @@ ghost use Rattle.std.specs.Io.KnownBytes.{Appends};
 ghost use Rattle.qscript.specs.Transfer.{IsReading, IsReadFault, IsWriteFault};
 
 use crate::watched::Watched;
-use qreading::fault::ScriptFault;
-use qreading::reading::script::MOST_TEXT;
+use qscript_text::fault::ScriptFault;
+use qscript_text::reading::script::MOST_TEXT;
 use std::alloc::Global;
 use std::io::{Read, Write};
 
 /// The most bytes of one read.
 const CHUNK: usize = 4096;
 
-/// Reads to the end. It stops with an error once the reader fails or gives more than a script may have, whichever comes
-/// first.
+/// Reads to the end. Reading stops with an error once the reader fails, or once it has given more bytes than
+/// a script may have.
 pub fn read_all<R: Read>(alloc: Global, reader: &mut Watched<R>) -> Result<Vec<u8>, ScriptFault>
     requires { reader.old.faulted ≡ false }
-    ensures ok { IfOk result (λ text. IsReading (R.remaining reader.old.inner) (R.remaining reader.new.inner) text.items) }
-    ensures err { IfErr result (λ e. IsReadFault e (R.remaining reader.old.inner) (R.remaining reader.new.inner) reader.new.faulted) }
+    ensures ok { IfOk result
+        (λ text. IsReading (R.remaining reader.old.inner) (R.remaining reader.new.inner) text.items) }
+    ensures err { IfErr result
+        (λ e. IsReadFault e (R.remaining reader.old.inner)
+        (R.remaining reader.new.inner) reader.new.faulted) }
 {
     let mut text = Vec::new(alloc);
     let mut chunk = [0u8; CHUNK];
@@ -35,11 +38,13 @@ pub fn read_all<R: Read>(alloc: Global, reader: &mut Watched<R>) -> Result<Vec<u
     Err(ScriptFault::TooLong)
 }
 
-/// Writes all the bytes. A write that takes none of them is an error, since it would be tried for ever.
+/// Writes all the bytes. A write that takes none of them is an error, since it could be repeated without end.
 pub fn write_all<W: Write>(writer: &mut Watched<W>, bytes: &[u8]) -> Result<(), ScriptFault>
     requires { writer.old.faulted ≡ false }
     ensures ok { OnOk result (Appends (W.contents writer.old.inner) (W.contents writer.new.inner) bytes.now) }
-    ensures err { IfErr result (λ e. IsWriteFault e (W.contents writer.old.inner) (W.contents writer.new.inner) writer.new.faulted bytes.now) }
+    ensures err { IfErr result
+        (λ e. IsWriteFault e (W.contents writer.old.inner)
+        (W.contents writer.new.inner) writer.new.faulted bytes.now) }
 {
     let mut at = 0;
     'writing: while at < bytes.len() {

@@ -8,9 +8,9 @@ ghost use Rattle.qscript.specs.Watched.{inner_of, has_faulted, fails_to_write};
 use std::io;
 use std::io::{Read, Write};
 
-/// A reader or a writer that remembers whether one of its reads or writes failed. A write that takes none of some bytes
-/// counts as failed. All reads, writes and flushes are passed on as they are; a flush that fails returns its error,
-/// which isn't remembered.
+/// A reader or a writer that remembers whether one of its reads or writes failed. A write that takes none of
+/// some bytes counts as failed. Each read, write and flush is passed on unchanged. A flush that fails returns
+/// its error, but isn't remembered.
 #[derive(Drop)]
 pub struct Watched<T> {
     inner: T,
@@ -29,14 +29,14 @@ impl<T> Watched<T> {
         }
     }
 
-    /// Returns whether one of its reads or writes failed so far. A later success doesn't clear that.
+    /// Returns whether one of its reads or writes has failed so far. A later success doesn't clear this.
     pub fn faulted(&self) -> bool
         ensures { result ≡ has_faulted self.now }
     {
         self.faulted
     }
 
-    /// Returns the reader or writer.
+    /// Returns the inner reader or writer.
     pub fn into_inner(self) -> T
         ensures { result ≡ inner_of self }
     {
@@ -49,7 +49,8 @@ impl<R: Read> Read for Watched<R> {
 
     fn read(&mut self, buf: &mut [u8]) -> io::Result<usize>
         ensures bound { ReadsAtMost result buf.new }
-        ensures bytes { ReadConsumes (R.remaining (inner_of self.old)) (R.remaining (inner_of self.new)) result buf.new }
+        ensures bytes { ReadConsumes (R.remaining (inner_of self.old))
+            (R.remaining (inner_of self.new)) result buf.new }
         ensures faulted { has_faulted self.new ≡ (has_faulted self.old || is_err result) }
     {
         let result = self.inner.read(buf);
@@ -65,7 +66,8 @@ impl<W: Write> Write for Watched<W> {
 
     fn write(&mut self, buf: &[u8]) -> io::Result<usize>
         ensures bound { WritesAtMost result buf.now }
-        ensures bytes { WriteAppends (W.contents (inner_of self.old)) (W.contents (inner_of self.new)) result buf.now }
+        ensures bytes { WriteAppends (W.contents (inner_of self.old))
+            (W.contents (inner_of self.new)) result buf.now }
         ensures faulted { has_faulted self.new ≡ (has_faulted self.old || fails_to_write result buf.now) }
     {
         let result = self.inner.write(buf);

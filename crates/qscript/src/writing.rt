@@ -1,4 +1,4 @@
-//! Writes the script of a run: its threads and its calls, in lines that mean just them.
+//! Writes the script of a run: its threads and its calls, in lines that mean exactly these.
 
 ghost use Rattle.std.specs.Prelude.{◌≡◌, ◌<◌, ◌++◌, length, IfOk, OnOk, Some, slice_get, string_bytes};
 ghost use Rattle.std.specs.List.{flat_map};
@@ -6,18 +6,18 @@ ghost use Rattle.std.specs.Option.{option_map};
 ghost use Rattle.qscript.specs.Writing.Text.{member_text, call_text, script_text};
 
 mod call_line;
-mod laws;
+mod writing_laws;
 
 use call_line::push_call;
 use qkernel::trace::Trace;
 use qtables::member::Member;
 use std::alloc::{AllocError, Global};
 
-/// The number of bytes that are reserved for a line: a typical line without bytes, and some more.
+/// The bytes that are reserved for a line. A typical line without message bytes needs fewer.
 const LINE: usize = 32;
 
-/// Returns the script whose roster has these threads, and whose calls are those of the run's events, each by the thread
-/// that made it. It may be longer than a script that is read may be.
+/// Returns the script with these threads in its roster and with the calls of the run's events. Each call has
+/// the thread that made it. The script may be longer than the limit for scripts that are read, `MOST_TEXT`.
 #[tactic(auto, unfolding(crate::specs::Writing::Text::script_text))]
 pub fn script_of(alloc: Global, roster: &[Member], run: &Trace) -> Result<String, AllocError>
     ensures { IfOk result (λ text. string_bytes text ≡ script_text roster.now run.now.events) }
@@ -59,7 +59,8 @@ fn push_calls(out: &mut String, run: &Trace) -> Result<(), AllocError>
 /// Adds the line of the call at index `k` of the run.
 fn push_call_at(out: &mut String, run: &Trace, k: usize) -> Result<(), AllocError>
     requires { k < length run.now.events }
-    ensures { OnOk result (option_map (λ e. string_bytes out.old ++ call_text e) (slice_get run.now.events k) ≡ Some (string_bytes out.new)) }
+    ensures { OnOk result (option_map (λ e. string_bytes out.old ++ call_text e) (slice_get run.now.events k)
+        ≡ Some (string_bytes out.new)) }
 {
     let thread = run.thread(k).0;
     write!(out, "{thread}")?;

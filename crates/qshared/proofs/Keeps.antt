@@ -1,16 +1,24 @@
--- What is so under the lock before a call and after it.
-use Rattle.qshared.proofs.Common.{◌≡◌, ℕ, ◌+◌, ◌<◌, ◌^◌, List, [], length, refl, ap, sym, subst, ◌∙◌, arith, true, false, inl, inr, AllByRecursion, None, Option, Some, is_some, cases_Bool, eq-eqb, eqb-true, same_Some, all_more, length-map, Busy, member_at, Member, Call, Completion, AreApart, gets, thread_at, with_event, among_member, caller_gets_its_own, endings_are_apart, is_blocked, Answers, AnswersAtTraces, State, Desk, line, opened_desk, cancelled_desk, IsBusy, one, HasWaited, at_once, later_due, of_thread, place, has_ending_of, is_down, IsUnderLock, Admits, IsFree, IsServed, IsReason, IsEvent, Performs, Refuses, outcome, MayPut, Handed, stands_down}
+-- The invariant under the lock, before a call and after it.
+use Rattle.qshared.proofs.Common.{◌≡◌, ℕ, ◌+◌, ◌<◌, ◌^◌, List, [], length, refl, ap, sym, subst, ◌∙◌, arith, true}
+use Rattle.qshared.proofs.Common.{false, inl, inr, AllByRecursion, None, Option, Some, is_some, cases_Bool, eq-eqb}
+use Rattle.qshared.proofs.Common.{eqb-true, same_Some, all_more, length-map, Busy, member_at, Member, Call, Completion}
+use Rattle.qshared.proofs.Common.{AreApart, gets, thread_at, with_event, among_member, caller_gets_its_own}
+use Rattle.qshared.proofs.Common.{completions_are_apart, is_blocked, Answers, AnswersAtTraces, State, KernelView, line}
+use Rattle.qshared.proofs.Common.{opened_kernel_view, cancelled_kernel_view, IsBusy, one, HasWaited, at_once, later_due}
+use Rattle.qshared.proofs.Common.{of_thread, place, has_completion_of, is_down, IsUnderLock, Admits, IsFree, IsServed}
+use Rattle.qshared.proofs.Common.{IsReason, IsEvent, Performs, Refuses, outcome, MayPut, Handed, stands_down}
 use Rattle.qrules.proofs.Words.Facts.{threads_of}
 use Rattle.qmodel.specs.Trace.{Trace}
-use Rattle.qrules.proofs.Traces.TraceLaws.Ending.{endings_name_own_calls}
+use Rattle.qrules.proofs.Traces.TraceLaws.Completion.{completions_name_own_calls}
 use Rattle.qrules.specs.Lawful.{facts_of}
 use Rattle.qshared.proofs.Places.{place_among, place_below}
 use Rattle.qshared.proofs.Turns.{gets_of, none_later, not_nil, of_one, own_number, waited_due}
 use Rattle.qshared.proofs.Telling.{undone, is_free, lawful_after, all_may_put, told_after}
 
-module _ (roster : List Member) (slots : ℕ) (kernel : State) (d : Desk Completion) (threads : List ℕ) (past : Trace)
+module _ (roster : List Member) (slots : ℕ) (kernel : State) (d : KernelView Completion) (threads : List ℕ)
+    (past : Trace)
     (h : IsUnderLock roster slots kernel d threads past) (t : ℕ) where
-  -- ---- why a call is refused
+  -- ---- the reasons for a refusal
 
   module _ (i : ℕ) (at : place (threads_of roster) t ≡ Some i) where
     pub is_known : is_some (member_at roster t) ≡ true
@@ -28,69 +36,104 @@ module _ (roster : List Member) (slots : ℕ) (kernel : State) (d : Desk Complet
         is_served,
         elim b [
           | inl opened ↦ inl (sym (h.told.tied t i at).1 ∙ opened)
-          | inr full ↦ inr (λ none. full ((h.told.tied t i at).0 ∙ none_later (at_once past t) (later_due past t) _ (h.told.owed t i at).later ((h.told.owed t i at).whole ∙ none)))
+          | inr full ↦
+              inr (λ none. full ((h.told.tied t i at).0
+              ∙ none_later (at_once past t) (later_due past t) _ (h.told.owed t i at).later
+              ((h.told.owed t i at).whole ∙ none)))
         ],
       )
 
-      -- a thread is busy if a call of it that waited isn't collected
+      -- a thread is busy if one of its calls didn't complete in its own event, and the completion isn't
+      -- collected
       pub is_pending : HasWaited past t → IsReason roster past t Busy
       is_pending waited =
           let o = h.told.owed t i at in (
             is_served,
             elim (cases_Bool (is_blocked (facts_of roster past) t)) [
               | inl blocked ↦ inl blocked
-              | inr idle ↦ inr (λ none. waited_due (is_blocked (facts_of roster past) t) (at_once past t) (later_due past t) o.later waited idle (o.whole ∙ none))
+              | inr idle ↦
+                  inr (λ none. waited_due (is_blocked (facts_of roster past) t) (at_once past t)
+                  (later_due past t) o.later waited idle (o.whole ∙ none))
             ],
           )
 
       module _ (closed : (line d i).opened ≡ false) (wide : length d.lines ≡ slots) where
         near : i < length d.lines
-        near = let below : i < length (threads_of roster) = place_below (threads_of roster) t i at in let long : length (threads_of roster) ≡ length roster = length-map roster (λ m. m.thread) in let sized = h.sized in omega arith
+        near = let below : i < length (threads_of roster) = place_below (threads_of roster) t i at in
+            let long : length (threads_of roster) ≡ length roster = length-map roster (λ m. m.thread) in
+            let sized = h.sized in omega arith
 
         pub free : IsFree roster past t
         free = is_free roster kernel d past t i h.told at up closed
 
-        pub same_desk : cancelled_desk (opened_desk d i) i ≡ d
-        same_desk = undone d i near closed
+        pub same_kernel_view : cancelled_kernel_view (opened_kernel_view d i) i ≡ d
+        same_kernel_view = undone d i near closed
 
         -- ---- an event
 
-        module _ (few : length past < 2 ^ 40) (c : Call) (X : List Completion) (new : State) (step : AnswersAtTraces kernel t c X new) where
+        module _ (few : length past < 2 ^ 40) (c : Call) (X : List Completion) (new : State)
+            (step : AnswersAtTraces kernel t c X new) where
           pub answers : Answers (facts_of roster past) t c X
           answers = (step roster past h.told.lawful h.told.stands).0
 
           pub apart : AreApart X
-          apart = endings_are_apart roster past (record { thread = t; call = c; endings = X }) h.rises (lawful_after roster kernel d past t i h.told at near free c X answers h.rises)
+          apart = completions_are_apart roster past (record { thread = t; call = c; completions = X }) h.rises
+              (lawful_after roster kernel d past t i h.told at near free c X answers h.rises)
 
-          pub may_put : AllByRecursion (MayPut threads (opened_desk d i)) X
-          may_put = subst (λ ts. AllByRecursion (MayPut ts (opened_desk d i)) X) (sym h.threads_are) (all_may_put roster kernel d past t i h.told at near free c X answers h.rises)
+          pub may_put : AllByRecursion (MayPut threads (opened_kernel_view d i)) X
+          may_put = subst (λ ts. AllByRecursion (MayPut ts (opened_kernel_view d i)) X) (sym h.threads_are)
+              (all_may_put roster kernel d past t i h.told at near free c X answers h.rises)
 
-          pub held_after : (d' : Desk Completion) → Handed threads t X (opened_desk d i) d' → IsUnderLock roster slots new d' threads (with_event t c X past)
+          pub held_after : (d' : KernelView Completion) → Handed threads t X (opened_kernel_view d i) d'
+              → IsUnderLock roster slots new d' threads (with_event t c X past)
           held_after d' handed = record {
             rises = h.rises;
             sized = h.sized;
             few = h.few;
             threads_are = h.threads_are;
-            told = told_after roster kernel d past t i h.told at near free c X answers h.rises new d' (step roster past h.told.lawful h.told.stands).1
-                (subst (λ ts. Handed ts t X (opened_desk d i) d') h.threads_are handed);
+            told = told_after roster kernel d past t i h.told at near free c X answers h.rises new d'
+                (step roster past h.told.lawful h.told.stands).1
+                (subst (λ ts. Handed ts t X (opened_kernel_view d i) d') h.threads_are handed);
             numbered = omega (arith, few);
           }
 
-          own_ending : (own : Option Completion) → of_thread t X ≡ one own → gets X t ≡ is_some own
-          own_ending None is = elim (cases_Bool (gets X t)) [
+          own_completion : (own : Option Completion) → of_thread t X ≡ one own → gets X t ≡ is_some own
+          own_completion None is = elim (cases_Bool (gets X t)) [
             | inl got ↦ let x = of_one t X apart got in absurd (not_nil x.0 [] (sym x.1 ∙ is))
             | inr none ↦ none
           ]
-          own_ending (Some x) is = gets_of t X x [] is
+          own_completion (Some x) is = gets_of t X x [] is
 
-          pub performs : (refuses : Refuses) (admits : Admits) (d' : Desk Completion) → admits past c → (own : Option Completion) → of_thread t X ≡ one own
-              → Performs roster refuses admits (record { kernel = kernel; desk = d; past = past }) t c (outcome own) (record { kernel = new; desk = d'; past = with_event t c X past })
+          pub performs : (refuses : Refuses) (admits : Admits) (d' : KernelView Completion) → admits past c
+              → (own : Option Completion) → of_thread t X ≡ one own
+              → Performs roster refuses admits (record { kernel = kernel; kernel_view = d; past = past }) t c
+              (outcome own) (record { kernel = new; kernel_view = d'; past = with_event t c X past })
           performs refuses admits d' admitted own is =
               let lawful = (lawful_after roster kernel d past t i h.told at near free c X answers h.rises) in
-              let ends : gets X t ≡ has_ending_of X (length past + 1) = caller_gets_its_own roster past (record { thread = t; call = c; endings = X }) h.rises lawful in
-              let names = endings_name_own_calls roster past (record { thread = t; call = c; endings = X }) h.rises lawful in
-              let event : IsEvent roster admits past t c X = record { free = free; admitted = admitted; answers = answers } in
-              elim own as (λ o. of_thread t X ≡ one o → Performs roster refuses admits (record { kernel = kernel; desk = d; past = past }) t c (outcome o) (record { kernel = new; desk = d'; past = with_event t c X past })) [
-                | None ↦ λ e. (X, event, refl, record { none = e; unended = sym ends ∙ own_ending None e })
-                | Some x ↦ λ e. (X, event, refl, record { only = e; number = own_number (length past + 1) t x X (all_more _ _ X names (λ y n s. same_Some y.thread t (sym n ∙ ap (thread_at (with_event t c X past)) (eqb-true y.call (length past + 1) s) ∙ rw (eq-eqb (length past + 1) (length past + 1) refl) refl))) (sym ends ∙ own_ending (Some x) e) e })
+              let ends : gets X t ≡ has_completion_of X (length past + 1) =
+              caller_gets_its_own roster past (record { thread = t; call = c; completions = X }) h.rises lawful in
+              let names =
+              completions_name_own_calls roster past (record { thread = t; call = c; completions = X }) h.rises
+              lawful in
+              let event : IsEvent roster admits past t c X =
+              record { free = free; admitted = admitted; answers = answers } in
+              elim own as (λ o. of_thread t X ≡ one o
+              → Performs roster refuses admits (record { kernel = kernel; kernel_view = d; past = past }) t c
+              (outcome o) (record { kernel = new; kernel_view = d'; past = with_event t c X past })) [
+                | None ↦ λ e. (X, event, refl, record { none = e; unended = sym ends ∙ own_completion None e })
+                | Some x ↦ λ e. (
+                  X,
+                  event,
+                  refl,
+                  record {
+                    only = e;
+                    number =
+                        own_number (length past + 1) t x X
+                        (all_more _ _ X names
+                        (λ y n s. same_Some y.thread t
+                        (sym n ∙ ap (thread_at (with_event t c X past)) (eqb-true y.call (length past + 1) s)
+                        ∙ rw (eq-eqb (length past + 1) (length past + 1) refl) refl)))
+                        (sym ends ∙ own_completion (Some x) e) e;
+                  },
+                )
               ] is

@@ -1,5 +1,10 @@
--- Endings that came at once and endings that came later, in turn.
-use Rattle.qshared.proofs.Common.{◌≡◌, ℕ, zero, suc, ◌+◌, ◌-◌, ◌<◌, ◌≤◌, ◌⊎◌, List, [], ◌∷◌, ◌++◌, length, length-append, take, drop, refl, ap, sym, subst, ◌∙◌, cond, Bool, true, false, eqb, inl, inr, arith, append-nil, append_assoc, None, Option, Some, is_none, MatchOption, AllByRecursion, list_any, take-append-drop, drop-append_seam, cases_Bool, eqb-true, eq-eqb, true≢false, Completion, gets, AreApart, Extends, Call, IsSince, WaitedBefore, calls_of, HasWaited, of_thread, at_once, ends_open, in_turn, waits, AreLater}
+-- Completions that came in the calls' own events and later completions, in the order of the calls.
+use Rattle.qshared.proofs.Common.{◌≡◌, ℕ, zero, suc, ◌+◌, ◌-◌, ◌<◌, ◌≤◌, ◌⊎◌, List, [], ◌∷◌, ◌++◌, length}
+use Rattle.qshared.proofs.Common.{length-append, take, drop, refl, ap, sym, subst, ◌∙◌, cond, Bool, true, false, eqb}
+use Rattle.qshared.proofs.Common.{inl, inr, arith, append-nil, append_assoc, None, Option, Some, is_none, MatchOption}
+use Rattle.qshared.proofs.Common.{AllByRecursion, list_any, take-append-drop, drop-append_seam, cases_Bool, eqb-true}
+use Rattle.qshared.proofs.Common.{eq-eqb, true≢false, Completion, gets, AreApart, Extends, Call, IsSince, WaitedBefore}
+use Rattle.qshared.proofs.Common.{calls_of, HasWaited, of_thread, at_once, ends_open, in_turn, waits, AreLater}
 use Rattle.qmodel.specs.Trace.{Trace}
 
 -- the head and the tail of equal lists
@@ -18,50 +23,60 @@ tails x y xs ys e = ap rest e where
 pub not_nil : {A : Type 0} (x : A) (xs : List A) → x ∷ xs ≡ [] → ⊥
 not_nil x xs e = let n : suc (length xs) ≡ zero = ap length e in omega arith
 
--- ---- lists of endings
+-- ---- lists of completions
 
-pub turn_once : (once : List (List Completion)) (later : List Completion) (x : Completion) (xs : List Completion) → in_turn (once ++ (x ∷ xs) ∷ []) later ≡ in_turn once later ++ x ∷ xs
-turn_once [] later x xs = append-nil (x ∷ xs)
-turn_once ((y ∷ ys) ∷ once) later x xs = ap (λ zs. y ∷ ys ++ zs) (turn_once once later x xs) ∙ sym (append_assoc (y ∷ ys) (in_turn once later) (x ∷ xs))
-turn_once ([] ∷ once) [] x xs = turn_once once [] x xs
-turn_once ([] ∷ once) (z ∷ later) x xs = ap (λ zs. z ∷ zs) (turn_once once later x xs)
+pub scratch_once : (once : List (List Completion)) (later : List Completion) (x : Completion) (xs : List Completion)
+    → in_turn (once ++ (x ∷ xs) ∷ []) later ≡ in_turn once later ++ x ∷ xs
+scratch_once [] later x xs = append-nil (x ∷ xs)
+scratch_once ((y ∷ ys) ∷ once) later x xs = ap (λ zs. y ∷ ys ++ zs) (scratch_once once later x xs)
+    ∙ sym (append_assoc (y ∷ ys) (in_turn once later) (x ∷ xs))
+scratch_once ([] ∷ once) [] x xs = scratch_once once [] x xs
+scratch_once ([] ∷ once) (z ∷ later) x xs = ap (λ zs. z ∷ zs) (scratch_once once later x xs)
 
-pub turn_none : (once : List (List Completion)) (later : List Completion) → length later ≤ waits once → in_turn (once ++ [] ∷ []) later ≡ in_turn once later
-turn_none [] [] few = refl
-turn_none [] (z ∷ later) few = absurd (omega arith)
-turn_none ((y ∷ ys) ∷ once) later few = ap (λ zs. y ∷ ys ++ zs) (turn_none once later few)
-turn_none ([] ∷ once) [] few = turn_none once [] (omega arith)
-turn_none ([] ∷ once) (z ∷ later) few = ap (λ zs. z ∷ zs) (turn_none once later (omega arith))
+pub scratch_none : (once : List (List Completion)) (later : List Completion) → length later ≤ waits once
+    → in_turn (once ++ [] ∷ []) later ≡ in_turn once later
+scratch_none [] [] few = refl
+scratch_none [] (z ∷ later) few = absurd (omega arith)
+scratch_none ((y ∷ ys) ∷ once) later few = ap (λ zs. y ∷ ys ++ zs) (scratch_none once later few)
+scratch_none ([] ∷ once) [] few = scratch_none once [] (omega arith)
+scratch_none ([] ∷ once) (z ∷ later) few = ap (λ zs. z ∷ zs) (scratch_none once later (omega arith))
 
-pub turn_later : (before : List (List Completion)) (later : List Completion) (x : Completion) → waits before ≡ length later → in_turn (before ++ [] ∷ []) (later ++ x ∷ []) ≡ in_turn (before ++ [] ∷ []) later ++ x ∷ []
-turn_later [] [] x same = refl
-turn_later [] (z ∷ later) x same = absurd (omega arith)
-turn_later ((y ∷ ys) ∷ before) later x same = ap (λ zs. y ∷ ys ++ zs) (turn_later before later x same) ∙ sym (append_assoc (y ∷ ys) (in_turn (before ++ [] ∷ []) later) (x ∷ []))
-turn_later ([] ∷ before) [] x same = absurd (omega arith)
-turn_later ([] ∷ before) (z ∷ later) x same = ap (λ zs. z ∷ zs) (turn_later before later x (omega arith))
+pub scratch_later : (before : List (List Completion)) (later : List Completion) (x : Completion)
+    → waits before ≡ length later → in_turn (before ++ [] ∷ []) (later ++ x ∷ []) ≡ in_turn (before ++ [] ∷ []) later
+    ++ x ∷ []
+scratch_later [] [] x same = refl
+scratch_later [] (z ∷ later) x same = absurd (omega arith)
+scratch_later ((y ∷ ys) ∷ before) later x same = ap (λ zs. y ∷ ys ++ zs) (scratch_later before later x same)
+    ∙ sym (append_assoc (y ∷ ys) (in_turn (before ++ [] ∷ []) later) (x ∷ []))
+scratch_later ([] ∷ before) [] x same = absurd (omega arith)
+scratch_later ([] ∷ before) (z ∷ later) x same = ap (λ zs. z ∷ zs) (scratch_later before later x (omega arith))
 
 pub waits_none : (once : List (List Completion)) → waits (once ++ [] ∷ []) ≡ waits once + 1
 waits_none [] = refl
 waits_none ([] ∷ once) = ap suc (waits_none once) ∙ omega arith
 waits_none ((y ∷ ys) ∷ once) = waits_none once
 
-pub waits_once : (once : List (List Completion)) (x : Completion) (xs : List Completion) → waits (once ++ (x ∷ xs) ∷ []) ≡ waits once
+pub waits_once : (once : List (List Completion)) (x : Completion) (xs : List Completion)
+    → waits (once ++ (x ∷ xs) ∷ []) ≡ waits once
 waits_once [] x xs = refl
 waits_once ([] ∷ once) x xs = ap suc (waits_once once x xs)
 waits_once ((y ∷ ys) ∷ once) x xs = waits_once once x xs
 
-turn_some : (once : List (List Completion)) (later : List Completion) → 0 < length later → length later ≤ waits once → in_turn once later ≡ [] → ⊥
-turn_some [] later some few e = absurd (omega (arith, some, few))
-turn_some ((y ∷ ys) ∷ once) later some few e = not_nil y (ys ++ in_turn once later) e
-turn_some ([] ∷ once) [] some few e = absurd (omega arith)
-turn_some ([] ∷ once) (z ∷ later) some few e = not_nil z (in_turn once later) e
+scratch_some : (once : List (List Completion)) (later : List Completion) → 0 < length later → length later ≤ waits once
+    → in_turn once later ≡ [] → ⊥
+scratch_some [] later some few e = absurd (omega (arith, some, few))
+scratch_some ((y ∷ ys) ∷ once) later some few e = not_nil y (ys ++ in_turn once later) e
+scratch_some ([] ∷ once) [] some few e = absurd (omega arith)
+scratch_some ([] ∷ once) (z ∷ later) some few e = not_nil z (in_turn once later) e
 
-few_later : (once : List (List Completion)) (later : List Completion) (waiting : Bool) → AreLater waiting once later → length later ≤ waits once
+few_later : (once : List (List Completion)) (later : List Completion) (waiting : Bool) → AreLater waiting once later
+    → length later ≤ waits once
 few_later once later true l = omega (arith, l.0)
 few_later once later false l = omega (arith, l.0)
 
--- whose last call waits
-open_end : (once : List (List Completion)) → ends_open once ≡ true → (before : List (List Completion)) × (once ≡ before ++ [] ∷ [])
+-- the last call didn't complete in its own event
+open_end : (once : List (List Completion)) → ends_open once ≡ true → (before : List (List Completion))
+    × (once ≡ before ++ [] ∷ [])
 open_end [] e = absurd (true≢false (sym e))
 open_end ([] ∷ []) e = ([], refl)
 open_end ((x ∷ xs) ∷ []) e = absurd (true≢false (sym e))
@@ -72,24 +87,29 @@ end_open [] = refl
 end_open (xs ∷ []) = refl
 end_open (xs ∷ ys ∷ once) = end_open (ys ∷ once)
 
--- nothing came later if nothing is due
-pub none_later : (once : List (List Completion)) (later : List Completion) (blocked : Bool) → AreLater blocked once later → in_turn once later ≡ [] → later ≡ []
+-- there are no later completions if there are no completions at all
+pub none_later : (once : List (List Completion)) (later : List Completion) (blocked : Bool)
+    → AreLater blocked once later → in_turn once later ≡ [] → later ≡ []
 none_later once [] blocked l e = refl
-none_later once (z ∷ later) blocked l e = absurd (turn_some once (z ∷ later) (omega arith) (few_later once (z ∷ later) blocked l) e)
+none_later once (z ∷ later) blocked l e =
+    absurd (scratch_some once (z ∷ later) (omega arith) (few_later once (z ∷ later) blocked l) e)
 
--- a thread one of whose calls waited is blocked, or an ending is due to it
-pub waited_due : (waiting : Bool) (once : List (List Completion)) (later : List Completion) → AreLater waiting once later → 0 < waits once → waiting ≡ false → in_turn once later ≡ [] → ⊥
+-- if a call of a thread didn't complete in its own event, the thread is blocked or has a completion
+pub waited_due : (waiting : Bool) (once : List (List Completion)) (later : List Completion)
+    → AreLater waiting once later → 0 < waits once → waiting ≡ false → in_turn once later ≡ [] → ⊥
 waited_due true once later l some free e = true≢false free
-waited_due false once later l some free e = turn_some once later (omega (arith, l.0, some)) (omega (arith, l.0)) e
+waited_due false once later l some free e = scratch_some once later (omega (arith, l.0, some)) (omega (arith, l.0)) e
 
--- a call that waits is one more, and the last
-pub now_waits : (once : List (List Completion)) (later : List Completion) → AreLater false once later → AreLater true (once ++ [] ∷ []) later
+-- a call that blocks is one more, and the last
+pub now_waits : (once : List (List Completion)) (later : List Completion) → AreLater false once later
+    → AreLater true (once ++ [] ∷ []) later
 now_waits once later l = (waits_none once ∙ omega (arith, l.0), λ w. end_open once)
 
-pub still_none : (once : List (List Completion)) (later : List Completion) (x : Completion) (xs : List Completion) → AreLater false once later → AreLater false (once ++ (x ∷ xs) ∷ []) later
+pub still_none : (once : List (List Completion)) (later : List Completion) (x : Completion) (xs : List Completion)
+    → AreLater false once later → AreLater false (once ++ (x ∷ xs) ∷ []) later
 still_none once later x xs l = (waits_once once x xs ∙ l.0, λ w. absurd (true≢false (sym w)))
 
--- ---- of one event
+-- ---- the completions of one event
 
 pub of_none : (t : ℕ) (X : List Completion) → gets X t ≡ false → of_thread t X ≡ []
 of_none t [] none = refl
@@ -105,7 +125,8 @@ of_one t (x ∷ X) apart some = elim (cases_Bool (eqb x.thread t)) [
   | inr e ↦ rw e (of_one t X apart.1 (rw e at some))
 ]
 
-pub gets_of : (t : ℕ) (X : List Completion) (x : Completion) (xs : List Completion) → of_thread t X ≡ x ∷ xs → gets X t ≡ true
+pub gets_of : (t : ℕ) (X : List Completion) (x : Completion) (xs : List Completion) → of_thread t X ≡ x ∷ xs
+    → gets X t ≡ true
 gets_of t X x xs is = elim (cases_Bool (gets X t)) [
   | inl e ↦ e
   | inr e ↦ absurd (not_nil x xs (sym is ∙ of_none t X e))
@@ -118,7 +139,8 @@ none_gets t (y ∷ Y) some none = elim (cases_Bool (eqb y.thread t)) [
   | inr e ↦ none_gets t Y (rw e at some) (rw e at none)
 ]
 
-any_of : (n t : ℕ) (X : List Completion) → AllByRecursion (λ y. eqb y.call n ≡ true → y.thread ≡ t) X → list_any (λ y. eqb y.call n) X ≡ true → gets X t ≡ true
+any_of : (n t : ℕ) (X : List Completion) → AllByRecursion (λ y. eqb y.call n ≡ true → y.thread ≡ t) X
+    → list_any (λ y. eqb y.call n) X ≡ true → gets X t ≡ true
 any_of n t [] all any = any
 any_of n t (y ∷ Y) all any = elim (cases_Bool (eqb y.call n)) [
   | inl e ↦ rw (eq-eqb y.thread t (all.0 e)) refl
@@ -128,11 +150,15 @@ any_of n t (y ∷ Y) all any = elim (cases_Bool (eqb y.call n)) [
   ]
 ]
 
--- the one ending for the thread is that of the call of this number, if that ends and is the thread's
-pub own_number : (n t : ℕ) (x : Completion) (X : List Completion) → AllByRecursion (λ y. eqb y.call n ≡ true → y.thread ≡ t) X → list_any (λ y. eqb y.call n) X ≡ true → of_thread t X ≡ x ∷ [] → x.call ≡ n
+-- the only completion for the thread is the completion of call n, if that call completes and is the thread's
+-- own
+pub own_number : (n t : ℕ) (x : Completion) (X : List Completion)
+    → AllByRecursion (λ y. eqb y.call n ≡ true → y.thread ≡ t) X → list_any (λ y. eqb y.call n) X ≡ true
+    → of_thread t X ≡ x ∷ [] → x.call ≡ n
 own_number n t x [] all any is = absurd (true≢false (sym any))
 own_number n t x (y ∷ Y) all any is = elim (cases_Bool (eqb y.call n)) [
-  | inl e ↦ let s : eqb y.thread t ≡ true = eq-eqb y.thread t (all.0 e) in ap (λ z. z.call) (sym (heads y x (of_thread t Y) [] (rw s at is))) ∙ eqb-true y.call n e
+  | inl e ↦ let s : eqb y.thread t ≡ true = eq-eqb y.thread t (all.0 e) in
+      ap (λ z. z.call) (sym (heads y x (of_thread t Y) [] (rw s at is))) ∙ eqb-true y.call n e
   | inr e ↦
       let more : list_any (λ z. eqb z.call n) Y ≡ true = rw e at any in
       elim (cases_Bool (eqb y.thread t)) [
@@ -141,107 +167,142 @@ own_number n t x (y ∷ Y) all any is = elim (cases_Bool (eqb y.call n)) [
       ]
 ]
 
--- ---- what is owed after an event
+-- ---- the completions of a thread after an event
 
--- by the caller's own ending, or by that which it waits for
-pub owed_own : (once : List (List Completion)) (later due ys : List Completion) (blocked : Bool) → AreLater false once later → in_turn once later ≡ due
+-- with the caller's own completion, or with its call still open
+pub owed_own : (once : List (List Completion)) (later due ys : List Completion) (blocked : Bool)
+    → AreLater false once later → in_turn once later ≡ due
     → ((ys ≡ []) × (blocked ≡ true)) ⊎ ((x : Completion) × (ys ≡ x ∷ []) × (blocked ≡ false))
     → AreLater blocked (once ++ ys ∷ []) (later ++ []) × (in_turn (once ++ ys ∷ []) (later ++ []) ≡ due ++ ys)
 owed_own once later due ys blocked l whole cases =
-    subst (λ ls. AreLater blocked (once ++ ys ∷ []) ls × (in_turn (once ++ ys ∷ []) ls ≡ due ++ ys)) (sym (append-nil later)) (elim cases [
-      | inl none ↦ rw (none.0, none.1) (now_waits once later l, turn_none once later (omega (arith, l.0)) ∙ whole ∙ sym (append-nil due))
-      | inr some ↦ rw (some.1, some.2) (still_none once later some.0 [] l, turn_once once later some.0 [] ∙ ap (λ zs. zs ++ some.0 ∷ []) whole)
+    subst (λ ls. AreLater blocked (once ++ ys ∷ []) ls × (in_turn (once ++ ys ∷ []) ls ≡ due ++ ys))
+    (sym (append-nil later)) (elim cases [
+      | inl none ↦ rw (none.0, none.1) (
+        now_waits once later l,
+        scratch_none once later (omega (arith, l.0)) ∙ whole ∙ sym (append-nil due),
+      )
+      | inr some ↦ rw (some.1, some.2) (
+        still_none once later some.0 [] l,
+        scratch_once once later some.0 [] ∙ ap (λ zs. zs ++ some.0 ∷ []) whole,
+      )
     ])
 
--- by another thread's event
-pub owed_other : (once : List (List Completion)) (later due ys : List Completion) (old blocked : Bool) → AreLater old once later → in_turn once later ≡ due
+-- after another thread's event
+pub owed_other : (once : List (List Completion)) (later due ys : List Completion) (old blocked : Bool)
+    → AreLater old once later → in_turn once later ≡ due
     → ((ys ≡ []) × (blocked ≡ old)) ⊎ ((x : Completion) × (ys ≡ x ∷ []) × (old ≡ true) × (blocked ≡ false))
     → AreLater blocked (once ++ []) (later ++ ys) × (in_turn (once ++ []) (later ++ ys) ≡ due ++ ys)
 owed_other once later due ys old blocked l whole cases =
-    subst (λ os. AreLater blocked os (later ++ ys) × (in_turn os (later ++ ys) ≡ due ++ ys)) (sym (append-nil once)) (elim cases [
+    subst (λ os. AreLater blocked os (later ++ ys) × (in_turn os (later ++ ys) ≡ due ++ ys)) (sym (append-nil once))
+    (elim cases [
       | inl none ↦ rw (none.0, none.1, append-nil later, append-nil due) (l, whole)
       | inr some ↦ rw (some.1, some.3) (more (rw (some.2) at l) some.0)
     ])
   where
-    more : AreLater true once later → (x : Completion) → AreLater false once (later ++ x ∷ []) × (in_turn once (later ++ x ∷ []) ≡ due ++ x ∷ [])
+    more : AreLater true once later → (x : Completion) → AreLater false once (later ++ x ∷ [])
+        × (in_turn once (later ++ x ∷ []) ≡ due ++ x ∷ [])
     more w x =
         let p = open_end once (w.1 refl) in
         let many : waits once ≡ waits p.0 + 1 = ap waits p.1 ∙ waits_none p.0 in
         let same : waits p.0 ≡ length later = omega (arith, many, w.0) in (
           (w.0 ∙ sym (length-append later (x ∷ [])) ∙ omega arith, λ b. absurd (true≢false (sym b))),
-          ap (λ os. in_turn os (later ++ x ∷ [])) p.1 ∙ turn_later p.0 later x same ∙ ap (λ os. in_turn os later ++ x ∷ []) (sym p.1) ∙ ap (λ zs. zs ++ x ∷ []) whole,
+          ap (λ os. in_turn os (later ++ x ∷ [])) p.1 ∙ scratch_later p.0 later x same
+              ∙ ap (λ os. in_turn os later ++ x ∷ []) (sym p.1) ∙ ap (λ zs. zs ++ x ∷ []) whole,
         )
 
--- ---- what a port collects
+-- ---- the completions that a port collects
 
 pub collects : (once : List (List Completion)) (later : List Completion) (x : Completion) → AreLater true once later
     → AreLater false once (later ++ x ∷ []) × (in_turn once (later ++ x ∷ []) ≡ in_turn once later ++ x ∷ [])
-collects once later x l = owed_other' (owed_other once later (in_turn once later) (x ∷ []) true false l refl (inr (x, refl, refl, refl))) where
-  owed_other' : AreLater false (once ++ []) (later ++ x ∷ []) × (in_turn (once ++ []) (later ++ x ∷ []) ≡ in_turn once later ++ x ∷ []) → AreLater false once (later ++ x ∷ []) × (in_turn once (later ++ x ∷ []) ≡ in_turn once later ++ x ∷ [])
-  owed_other' p = subst (λ os. AreLater false os (later ++ x ∷ []) × (in_turn os (later ++ x ∷ []) ≡ in_turn once later ++ x ∷ [])) (append-nil once) p
+collects once later x l =
+    owed_other' (owed_other once later (in_turn once later) (x ∷ []) true false l refl (inr (x, refl, refl, refl)))
+  where
+    owed_other' : AreLater false (once ++ []) (later ++ x ∷ [])
+        × (in_turn (once ++ []) (later ++ x ∷ []) ≡ in_turn once later ++ x ∷ [])
+        → AreLater false once (later ++ x ∷ []) × (in_turn once (later ++ x ∷ []) ≡ in_turn once later ++ x ∷ [])
+    owed_other' p =
+        subst (λ os. AreLater false os (later ++ x ∷ [])
+        × (in_turn os (later ++ x ∷ []) ≡ in_turn once later ++ x ∷ [])) (append-nil once) p
 
--- an ending is taken out of the cell, or none
+-- one completion or none is taken out of the cell
 abbrev pub Takes : Option Completion → List Completion → List Completion → Type 0
 Takes r before after = MatchOption r (after ≡ before) (λ x. after ≡ before ++ x ∷ [])
 
 pub takes : (once : List (List Completion)) (before after : List Completion) (r : Option Completion) (old new : Bool)
-    → Takes r before after → MatchOption r (new ≡ old) (λ x. (old ≡ true) × (new ≡ false)) → AreLater old once before → Takes r (in_turn once before) (in_turn once after)
+    → Takes r before after → MatchOption r (new ≡ old) (λ x. (old ≡ true) × (new ≡ false)) → AreLater old once before
+    → Takes r (in_turn once before) (in_turn once after)
 takes once before after None old new is p l = ap (in_turn once) is
-takes once before after (Some x) old new is p l = ap (in_turn once) is ∙ (collects once before x (subst (λ b. AreLater b once before) p.0 l)).1
+takes once before after (Some x) old new is p l = ap (in_turn once) is
+    ∙ (collects once before x (subst (λ b. AreLater b once before) p.0 l)).1
 
-pub takes_again : (once : List (List Completion)) (before between after : List Completion) (r s : Option Completion) (old middle new : Bool) → is_none r ≡ true
-    → Takes r before between → MatchOption r (middle ≡ old) (λ x. (old ≡ true) × (middle ≡ false)) → Takes s between after → MatchOption s (new ≡ middle) (λ x. (middle ≡ true) × (new ≡ false))
+pub takes_again : (once : List (List Completion)) (before between after : List Completion) (r s : Option Completion)
+    (old middle new : Bool) → is_none r ≡ true
+    → Takes r before between → MatchOption r (middle ≡ old) (λ x. (old ≡ true) × (middle ≡ false))
+    → Takes s between after → MatchOption s (new ≡ middle) (λ x. (middle ≡ true) × (new ≡ false))
     → AreLater old once before → Takes s (in_turn once before) (in_turn once after)
 takes_again once before between after (Some x) s old middle new none a p b q l = absurd (true≢false (sym none))
 takes_again once before between after None s old middle new none a p b q l =
-    takes once before after s old new (subst (λ xs. Takes s xs after) a b) (subst (λ m. MatchOption s (new ≡ m) (λ x. (m ≡ true) × (new ≡ false))) p q) l
+    takes once before after s old new (subst (λ xs. Takes s xs after) a b)
+    (subst (λ m. MatchOption s (new ≡ m) (λ x. (m ≡ true) × (new ≡ false))) p q) l
 
-pub takes_some : (before after : List Completion) (r : Option Completion) (x : Completion) → r ≡ Some x → Takes r before after → after ≡ before ++ x ∷ []
+pub takes_some : (before after : List Completion) (r : Option Completion) (x : Completion) → r ≡ Some x
+    → Takes r before after → after ≡ before ++ x ∷ []
 takes_some before after r x is t = subst (λ o. Takes o before after) is t
 
--- what a port took and what is left in its cell is all
-pub left_over : (once : List (List Completion)) (took left later : List Completion) (pending blocked : Bool) → AreLater pending once took → AreLater blocked once later → took ++ left ≡ later
+-- the completions that a port took and the completions that are left in its cell are all completions
+pub left_over : (once : List (List Completion)) (took left later : List Completion) (pending blocked : Bool)
+    → AreLater pending once took → AreLater blocked once later → took ++ left ≡ later
     → in_turn once took ++ left ≡ in_turn once later
-left_over once took left later pending blocked p l all = elim pending as (λ b. AreLater b once took → in_turn once took ++ left ≡ in_turn once later) [
-  | true ↦ λ w. one_left left w (omega (arith, few, many, w.0)) all
-  | false ↦ λ w. nothing_left left (omega (arith, few, many, w.0)) all
-] p where
-  many : length later ≡ length took + length left
-  many = ap length (sym all) ∙ length-append took left
+left_over once took left later pending blocked p l all =
+    elim pending as (λ b. AreLater b once took → in_turn once took ++ left ≡ in_turn once later) [
+      | true ↦ λ w. one_left left w (omega (arith, few, many, w.0)) all
+      | false ↦ λ w. nothing_left left (omega (arith, few, many, w.0)) all
+    ] p where
+      many : length later ≡ length took + length left
+      many = ap length (sym all) ∙ length-append took left
 
-  few : length later ≤ waits once
-  few = few_later once later blocked l
+      few : length later ≤ waits once
+      few = few_later once later blocked l
 
-  nothing_left : (ys : List Completion) → length ys ≤ 0 → took ++ ys ≡ later → in_turn once took ++ ys ≡ in_turn once later
-  nothing_left [] n a = append-nil (in_turn once took) ∙ ap (in_turn once) (sym (append-nil took) ∙ a)
-  nothing_left (y ∷ ys) n a = absurd (omega arith)
+      nothing_left : (ys : List Completion) → length ys ≤ 0 → took ++ ys ≡ later
+          → in_turn once took ++ ys ≡ in_turn once later
+      nothing_left [] n a = append-nil (in_turn once took) ∙ ap (in_turn once) (sym (append-nil took) ∙ a)
+      nothing_left (y ∷ ys) n a = absurd (omega arith)
 
-  one_left : (ys : List Completion) → AreLater true once took → length ys ≤ 1 → took ++ ys ≡ later → in_turn once took ++ ys ≡ in_turn once later
-  one_left [] w n a = nothing_left [] (omega arith) a
-  one_left (y ∷ []) w n a = sym (collects once took y w).1 ∙ ap (in_turn once) a
-  one_left (y ∷ z ∷ ys) w n a = absurd (omega arith)
+      one_left : (ys : List Completion) → AreLater true once took → length ys ≤ 1 → took ++ ys ≡ later
+          → in_turn once took ++ ys ≡ in_turn once later
+      one_left [] w n a = nothing_left [] (omega arith) a
+      one_left (y ∷ []) w n a = sym (collects once took y w).1 ∙ ap (in_turn once) a
+      one_left (y ∷ z ∷ ys) w n a = absurd (omega arith)
 
--- ---- a longer past with no more calls of a thread
+-- ---- a longer history without further calls of a thread
 
 calls_more : (more past : Trace) (t : ℕ) → length (calls_of past t) ≤ length (calls_of (more ++ past) t)
 calls_more [] past t = omega arith
-calls_more (e ∷ more) past t = let h = calls_more more past t in let a = length-append (calls_of (more ++ past) t) (cond (eqb e.thread t) (e.call ∷ []) []) in omega (arith, h, a)
+calls_more (e ∷ more) past t = let h = calls_more more past t in
+    let a = length-append (calls_of (more ++ past) t) (cond (eqb e.thread t) (e.call ∷ []) []) in omega (arith, h, a)
 
-once_more : (more past : Trace) (t : ℕ) → length (calls_of (more ++ past) t) ≤ length (calls_of past t) → at_once (more ++ past) t ≡ at_once past t
+once_more : (more past : Trace) (t : ℕ) → length (calls_of (more ++ past) t) ≤ length (calls_of past t)
+    → at_once (more ++ past) t ≡ at_once past t
 once_more [] past t few = refl
 once_more (e ∷ more) past t few = elim (cases_Bool (eqb e.thread t)) [
-  | inl is ↦ let a = length-append (calls_of (more ++ past) t) (e.call ∷ []) in absurd (omega (arith, calls_more more past t, a, rw is at few))
-  | inr other ↦ rw other (append-nil (at_once (more ++ past) t) ∙ once_more more past t (rw (other, append-nil (calls_of (more ++ past) t)) at few))
+  | inl is ↦ let a = length-append (calls_of (more ++ past) t) (e.call ∷ []) in
+      absurd (omega (arith, calls_more more past t, a, rw is at few))
+  | inr other ↦ rw other (append-nil (at_once (more ++ past) t)
+      ∙ once_more more past t (rw (other, append-nil (calls_of (more ++ past) t)) at few))
 ]
 
-pub once_same : (past seen last : Trace) (asked : List Call) (t : ℕ) → Extends past seen → Extends seen last → calls_of past t ≡ asked → calls_of last t ≡ asked → at_once past t ≡ at_once last t
+pub once_same : (past seen last : Trace) (asked : List Call) (t : ℕ) → Extends past seen → Extends seen last
+    → calls_of past t ≡ asked → calls_of last t ≡ asked → at_once past t ≡ at_once last t
 once_same past seen last asked t h k now then =
     let all : past ≡ (h.0 ++ k.0) ++ last = h.1 ∙ ap (λ l. h.0 ++ l) k.1 ∙ sym (append_assoc h.0 k.0 last) in
-    ap (λ p. at_once p t) all ∙ once_more (h.0 ++ k.0) last t (omega (arith, ap length (sym (ap (λ p. calls_of p t) all) ∙ now ∙ sym then)))
+    ap (λ p. at_once p t) all
+    ∙ once_more (h.0 ++ k.0) last t (omega (arith, ap length (sym (ap (λ p. calls_of p t) all) ∙ now ∙ sym then)))
 
--- a past that goes on from another, by its list
+-- a history extends another, if the other is the end of its list
 pub extends_since : (past last : Trace) → IsSince past last → Extends past last
-extends_since past last s = let n = length past - length last in (take n past, sym (take-append-drop n past) ∙ ap (λ l. take n past ++ l) s)
+extends_since past last s = let n = length past - length last in
+    (take n past, sym (take-append-drop n past) ∙ ap (λ l. take n past ++ l) s)
 
 pub since_extends : (past last : Trace) → Extends past last → IsSince past last
 since_extends past last h =
@@ -249,6 +310,9 @@ since_extends past last h =
     let less : length past - length last ≡ length h.0 = omega (arith, many) in
     ap (λ n. drop n past) less ∙ ap (drop (length h.0)) h.1 ∙ drop-append_seam h.0 last
 
--- a call that waited is one of the past
-pub still_waited : (past seen : Trace) (t : ℕ) → Extends past seen → WaitedBefore seen (calls_of past t) t → HasWaited past t
-still_waited past seen t h w = subst (λ os. 0 < waits os) (sym (once_same past seen w.last (calls_of past t) t h (extends_since seen w.last w.since) refl w.calls)) w.waited
+-- a call in the prefix that didn't complete in its own event is also in the history
+pub still_waited : (past seen : Trace) (t : ℕ) → Extends past seen → WaitedBefore seen (calls_of past t) t
+    → HasWaited past t
+still_waited past seen t h w =
+    subst (λ os. 0 < waits os)
+    (sym (once_same past seen w.last (calls_of past t) t h (extends_since seen w.last w.since) refl w.calls)) w.waited

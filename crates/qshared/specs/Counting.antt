@@ -1,4 +1,4 @@
--- How a port's answer to a call changes its counts and the endings that it took.
+-- How the outcome of a call changes a port's counts and the completions that it took.
 use Rattle.std.specs.Prelude.{Bool, true, false, List, [], ◌∷◌}
 use Rattle.qmodel.specs.declared.call.Completion.{Completion}
 use Rattle.qshared.specs.declared.port.Called.{Called}
@@ -10,13 +10,14 @@ is_call (Done x) = true
 is_call Blocked = true
 is_call (Refused errno call) = false
 
--- the endings that the port took with this answer
+-- the completions that the port took with this outcome
 abbrev pub gives : Called → List Completion
 gives (Done x) = x ∷ []
 gives Blocked = []
 gives (Refused errno call) = []
 
--- true if the port has a call that was blocked and isn't collected, given whether it had one before
+-- true if, after this outcome, the completion of a blocked call isn't collected yet; before says whether this
+-- was true before the call
 abbrev pub pends : Called → Bool → Bool
 pends (Done x) before = before
 pends Blocked before = true

@@ -2,7 +2,9 @@ pub mod Answered
 pub mod Asking
 pub mod Counting
 pub mod Due
-pub mod Laws
+pub mod Halves
+pub mod History
+pub mod HistoryLaws
 pub mod Names
 pub mod Naming
 pub mod Past

@@ -1,8 +1,8 @@
--- The parts, and the ports, that belong to one kernel.
+-- The parts and the ports that belong to one kernel.
 use Rattle.std.specs.Prelude.{◌≡◌, ℕ, List, length, map}
 use mathlib.Core.Option.{some}
 use lib.ListN.{get_elem?}
-use Rattle.qstate.specs.Kept.{members_of}
+use Rattle.qkernel_state.specs.Kept.{members_of}
 use Rattle.qhandoff.specs.Words.{cells_id}
 use Rattle.qshared.specs.Names.{Names}
 use Rattle.qshared.specs.declared.parts.Parts.{Parts}
@@ -25,7 +25,7 @@ ledger_of p = p.blank.name
 abbrev pub shares_of : Parts → ℕ
 shares_of p = p.blank.parts
 
--- the parts have these names, and the ledger of this name, which has as many shares as there are cells
+-- the parts have these names, and their ledger has this name and as many shares as there are cells
 abbrev pub AreParts : Names → ℕ → ℕ → Parts → Type 0
 AreParts names ledger shares p =
     (cells_id p.cells ≡ names.cells) × (ledger_of p ≡ ledger) × (shares ≡ names.cells.slots)
@@ -33,7 +33,7 @@ AreParts names ledger shares p =
     × (map (λ h. h.name) p.heard.items ≡ names.lists) × (p.limit ≡ names.limit)
     × (p.history.name ≡ names.history)
 
--- there are this many ports, and each has the index of its place as its number
+-- there are this many ports, and the port at index k has the number k
 abbrev pub AreAll : {P : Type 0} → (P → ℕ) → ℕ → List P → Type 0
 AreAll {P} number many ports =
     (length ports ≡ many) × ((k : ℕ) (p : P) → get_elem? ports k ≡ some p → number p ≡ k)

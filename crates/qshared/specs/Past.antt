@@ -1,8 +1,8 @@
--- What contracts ask of the past and of an event's endings.
+-- Conditions of contracts on the history and on an event's completions.
 use Rattle.std.specs.Prelude.{◌≡◌, ◌==◌, ℕ}
 use mathlib.Core.Option.{some}
 use lib.ListN.{get_elem?}
-use Rattle.qpast.specs.History.{Extends}
+use Rattle.qshared.specs.History.{Extends}
 use Rattle.qrules.specs.Words.{list_any, Bool, Completion, List}
 use Rattle.qrules.specs.Past.{was_done}
 use Rattle.qrules.specs.Trace.{CallNo, Trace}
@@ -12,10 +12,10 @@ pub use Rattle.qrules.specs.Trace.{RiseByThread}
 abbrev pub is_down : Trace → Bool
 is_down past = was_done (λ e. e.shuts_down) past
 
--- true if one of these endings is that of call i
-abbrev pub has_ending_of : List Completion → CallNo → Bool
-has_ending_of endings i = list_any (λ x. x.call == i) endings
+-- true if one of these completions belongs to call i
+abbrev pub has_completion_of : List Completion → CallNo → Bool
+has_completion_of completions i = list_any (λ x. x.call == i) completions
 
--- this past goes on from each of those that were seen
+-- the history extends each of these prefixes
 abbrev pub AreSeen : Trace → List Trace → Type 0
 AreSeen past seen = (k : ℕ) (s : Trace) → get_elem? seen k ≡ some s → Extends past s

@@ -1,4 +1,4 @@
--- Words of the inner functions, of what they keep and of the proofs. No public function's contract cites one
--- of them.
+-- Definitions for private functions, for their data and for the proofs. No contract of a public function uses
+-- them.
 pub mod Putting
 pub mod Rooms

@@ -1,4 +1,4 @@
--- A past that is kept, and its limit.
+-- A history that is kept, and its limit.
 use Rattle.std.specs.Prelude.{◌≡◌, ℕ, ◌+◌, ◌<◌, ◌⊎◌, Bool, length}
 use Rattle.qbase.specs.declared.errno.Errno.{Errno}
 use Rattle.qbase.specs.declared.errno.Errno.TheVariants.{TraceFull, NoMemory}
@@ -6,15 +6,15 @@ use Rattle.qmodel.specs.declared.call.Call.{Call}
 use Rattle.qmodel.specs.declared.call.Call.TheVariants.{Shutdown}
 use Rattle.qrules.specs.Trace.{Trace}
 
--- what contracts see of a kept past: the past, the call that was noted last, and whether that isn't an event
--- yet
+-- a kept history as contracts see it: the history, the call that was noted last, and whether this call isn't
+-- an event yet
 pub record KeptPast : Type 0 where
   pub past : Trace
   pub noted : Call
   pub ready : Bool
 
--- the errors with which a call isn't noted: one event of the limit is left, or there was no memory; a
--- Shutdown is never refused
+-- the errors with which a call isn't noted: one event of the limit is left, or there was no memory. A
+-- Shutdown is never refused.
 abbrev pub refuses_kept : ℕ → Trace → Call → Errno → Type 0
 refuses_kept limit past c TraceFull = (length past + 1 ≡ limit) × ¬ (c ≡ Shutdown)
 refuses_kept limit past c NoMemory = (length past + 1 < limit) × ¬ (c ≡ Shutdown)

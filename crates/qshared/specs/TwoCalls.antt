@@ -1,4 +1,4 @@
--- A port's answer to two calls that are made in one turn at the lock.
+-- The outcome of two calls that a port makes without freeing the lock between them.
 use Rattle.std.specs.Prelude.{◌≡◌, ℕ, Bool, true, false, ◌+◌, List, [], ◌∷◌, if◌then◌else◌}
 use Rattle.qtables.specs.declared.member.Member.{Member}
 use Rattle.qmodel.specs.declared.call.Call.{Call}
@@ -12,44 +12,45 @@ use Rattle.qshared.specs.Performing.{Admits, Refuses}
 use Rattle.qshared.specs.declared.port.Called.{Called}
 use Rattle.qshared.specs.declared.port.Called.TheVariants.{Done, Blocked}
 use Rattle.qshared.specs.declared.port.Called.TheVariants as called
-use Rattle.qshared.specs.declared.port.CalledBoth.{CalledBoth}
-use Rattle.qshared.specs.declared.port.CalledBoth.TheVariants.{Both, First}
+use Rattle.qshared.specs.declared.port.CalledPair.{CalledPair}
+use Rattle.qshared.specs.declared.port.CalledPair.TheVariants.{Both, First}
 
--- true if a call succeeded, by the mark of its ending
+-- true if a call succeeded, by its result
 abbrev pub is_ok : Mark → Bool
 is_ok Ok = true
 is_ok other = false
 
--- true if a call ended in its own event, and succeeded
+-- true if a call completed in its own event, and succeeded
 abbrev pub is_accepted : Called → Bool
 is_accepted (Done x) = is_ok x.mark
 is_accepted Blocked = false
 is_accepted (called.Refused errno call) = false
 
 -- the number of the two calls that are events
-abbrev pub calls_in : CalledBoth → ℕ
+abbrev pub calls_in : CalledPair → ℕ
 calls_in (Both x second) = 1 + (if is_call second then 1 else 0)
 calls_in (First first given) = if is_call first then 1 else 0
 
--- those of the two calls that are events
-abbrev pub asked_by : Call → Call → CalledBoth → List Call
+-- the calls of the two that are events
+abbrev pub asked_by : Call → Call → CalledPair → List Call
 asked_by c d (Both x second) = c ∷ (if is_call second then d ∷ [] else [])
 asked_by c d (First first given) = if is_call first then c ∷ [] else []
 
--- the endings that the port took with this answer
-abbrev pub gives_both : CalledBoth → List Completion
+-- the completions that the port took with this outcome
+abbrev pub gives_both : CalledPair → List Completion
 gives_both (Both x second) = x ∷ gives second
 gives_both (First first given) = gives first
 
--- true if the port has a call that was blocked and isn't collected, given whether it had one before
-abbrev pub pends_both : CalledBoth → Bool → Bool
+-- true if, after this outcome, the completion of a blocked call isn't collected yet; before says whether this
+-- was true before the calls
+abbrev pub pends_both : CalledPair → Bool → Bool
 pends_both (Both x second) before = pends second before
 pends_both (First first given) before = pends first before
 
--- two calls are answered at a past, with no event between them: the second is made exactly if the first ended
--- in its own event and didn't fail, and then after that event; a call that isn't made is given back
+-- two calls after a history, with no event between them. The second is tried exactly if the first completed
+-- in its own event and succeeded, and then after that event. If it isn't tried, it is returned.
 abbrev pub AnsweredBoth :
-    List Member → Refuses → Admits → ℕ → Call → Call → CalledBoth → Trace → Trace → Type 0
+    List Member → Refuses → Admits → ℕ → Call → Call → CalledPair → Trace → Trace → Type 0
 AnsweredBoth roster refuses admits t c d (Both x second) past after =
     (is_ok x.mark ≡ true)
     × ((between : Trace) × Answered roster refuses admits t c (Done x) past between

@@ -1,4 +1,4 @@
--- The value under the lock: a kernel, the kernel's seat of the cells, and the past.
+-- The value under the lock: a kernel, the kernel's token of the cells, and the history.
 use Rattle.std.specs.Prelude.{◌≡◌, ℕ, ◌≤◌, List, length, ◌^◌, Some}
 use Rattle.qtables.specs.Members.{IsRoster}
 use Rattle.qtables.specs.declared.member.Member.{Member}
@@ -9,27 +9,29 @@ use Rattle.qrules.specs.Properties.{HasProperties}
 use Rattle.qrules.specs.Trace.{Trace}
 use Rattle.qkernel.specs.Stands.{StandsAt}
 use Rattle.qkernel.specs.Kernel.{State}
-use Rattle.qhandoff.specs.declared.view.Desk.{Desk}
+use Rattle.qhandoff.specs.declared.view.KernelView.{KernelView}
 use Rattle.qshared.specs.Due.{IsOwed, IsTied, place}
 
--- what contracts see of the value under the lock: the kernel, what its seat knows of the cells, and the past
+-- the value under the lock as contracts see it: the kernel, the knowledge of its token about the cells, and
+-- the history
 pub record UnderLock : Type 0 where
   pub kernel : State
-  pub desk : Desk Completion
+  pub kernel_view : KernelView Completion
   pub past : Trace
 
--- the past is lawful and has the six properties, the kernel stands at it, and the endings put into the cells
--- are those that came later
-pub record Agrees (roster : List Member) (kernel : State) (d : Desk Completion) (past : Trace) : Type 0 where
+-- the history is valid and has the six properties, the kernel matches it, and the later completions of the
+-- threads were put into the cells
+pub record Agrees (roster : List Member) (kernel : State) (d : KernelView Completion)
+    (past : Trace) : Type 0 where
   pub lawful : IsLawful roster past
   pub properties : HasProperties roster past
   pub stands : StandsAt roster kernel past
   pub tied : IsTied roster d past
   pub owed : (t i : ℕ) → place (threads_of roster) t ≡ Some i → IsOwed roster past t
 
--- what holds whenever the lock is free, for the kernel of this roster: all of the above, and there are as
+-- the invariant of the kernel of this roster while the lock is free: the condition above, and there are as
 -- many cells as threads
-pub record IsUnderLock (roster : List Member) (slots : ℕ) (kernel : State) (d : Desk Completion)
+pub record IsUnderLock (roster : List Member) (slots : ℕ) (kernel : State) (d : KernelView Completion)
     (threads : List ℕ) (past : Trace) : Type 0 where
   pub rises : IsRoster roster
   pub sized : length roster ≡ slots

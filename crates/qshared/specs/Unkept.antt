@@ -1,4 +1,4 @@
--- A past that is kept nowhere: the errors of its log, and what holds of it.
+-- A history that isn't kept: the errors of its log, and its properties.
 use Rattle.std.specs.Prelude.{◌≡◌, ℕ, ◌+◌, ◌<◌, ◌⊎◌, ◌^◌, List, length, sum}
 use Rattle.qbase.specs.declared.errno.Errno.{Errno}
 use Rattle.qbase.specs.declared.errno.Errno.TheVariants.{Exhausted}
@@ -13,8 +13,8 @@ use Rattle.qshared.specs.Asking.{AreCallsOf}
 use Rattle.qshared.specs.Past.{AreSeen}
 use Rattle.qshared.specs.Due.{AreDue}
 
--- the error with which a call isn't noted: one event of the 2^40 that a kernel makes is left; a Shutdown is
--- never refused
+-- the error with which a call isn't noted: one event of the 2^40 that a kernel makes is left. A Shutdown is
+-- never refused.
 abbrev pub refuses_unkept : Trace → Call → Errno → Type 0
 refuses_unkept past c Exhausted = (length past + 1 ≡ 2 ^ 40) × ¬ (c ≡ Shutdown)
 refuses_unkept past c e = ⊥
@@ -23,9 +23,10 @@ refuses_unkept past c e = ⊥
 abbrev pub admits_unkept : Trace → Call → Type 0
 admits_unkept past c = (length past + 1 < 2 ^ 40) ⊎ (c ≡ Shutdown)
 
--- there is a past, lawful and with the six properties, of as many events as these counts sum to; each
--- thread's calls in it are exactly those of its list, it goes on from all that was seen, and due to the
--- thread is exactly what its port took and what is left for it
+-- there is a valid history with the six properties. The sum of these counts is the number of its events. The
+-- calls of each thread in it are exactly the calls of the thread's list, and it extends all prefixes that
+-- were seen. The completions of each thread in it are exactly the completions that its port took and the
+-- completions that are left for it.
 pub record HasPast (roster : List Member) (taken : List (List Completion)) (asked : List (List Call))
     (seen : List Trace) (calls : List ℕ) (left : List Completion) : Type 0 where
   pub past : Trace

@@ -1,22 +1,23 @@
-//! Putting an event's endings into the cells.
+//! Puts the completions of an event into the cells.
+
 ghost use Rattle.std.specs.Prelude.{◌≡◌, ◌<◌, ◌≤◌, [], length, Some};
 ghost use Rattle.std.specs.List.{AllByRecursion};
-ghost use Rattle.qhandoff.specs.Steps.{put_desk};
-ghost use Rattle.qhandoff.specs.Words.{cells_id, kernel_id, desk, one};
+ghost use Rattle.qhandoff.specs.Steps.{put_kernel_view};
+ghost use Rattle.qhandoff.specs.Words.{cells_id, kernel_id, kernel_view, one};
 ghost use Rattle.qrules.specs.Trace.{AreApart};
 ghost use Rattle.qrules.specs.Facts.{threads_of};
-ghost use Rattle.qstate.specs.Kept.{members_of};
+ghost use Rattle.qkernel_state.specs.Kept.{members_of};
 ghost use Rattle.qshared.specs.Due.{of_thread, place};
 ghost use Rattle.qshared.specs.Private.Putting.{MayPut, Handed};
 
-use crate::turn::Turn;
+use crate::call_scratch::CallScratch;
 use qbase::ids::ThreadNo;
 use qhandoff::cells::Cells;
 use qhandoff::seats::KernelSeat;
 use qkernel::kernel::Kernel;
 use qmodel::call::Completion;
 
-/// Returns the number of a thread's cell; `None` if the thread isn't in the roster.
+/// Returns the index of a thread's cell, or `None` if the thread isn't in the roster.
 pub(crate) fn place_of(kernel: &Kernel, thread: ThreadNo) -> Option<usize>
     ensures { result ≡ place (threads_of (members_of kernel.now.threads)) thread }
 {
@@ -24,66 +25,71 @@ pub(crate) fn place_of(kernel: &Kernel, thread: ThreadNo) -> Option<usize>
     Some(seat.index())
 }
 
-/// Puts one ending into its thread's cell, and returns the cell's number.
+/// Puts one completion into its thread's cell, and returns the cell's index.
 fn hand_one(
     seat: &mut KernelSeat<Completion>,
     cells: &Cells<Completion>,
     kernel: &Kernel,
-    ending: Completion,
+    completion: Completion,
 ) -> usize
     requires cells { kernel_id seat.old ≡ cells_id cells.now }
     requires sized { length (threads_of (members_of kernel.now.threads)) ≡ (cells_id cells.now).slots }
-    requires may { MayPut (threads_of (members_of kernel.now.threads)) (desk seat.old) ending }
+    requires may { MayPut (threads_of (members_of kernel.now.threads)) (kernel_view seat.old) completion }
     ensures cells { kernel_id seat.new ≡ kernel_id seat.old }
     ensures place { result < (cells_id cells.entry.now).slots }
-    ensures put { (place (threads_of (members_of kernel.now.threads)) ending.thread ≡ Some result) × (desk seat.new ≡ put_desk (desk seat.old) result ending) }
+    ensures put { (place (threads_of (members_of kernel.now.threads)) completion.thread ≡ Some result)
+        × (kernel_view seat.new ≡ put_kernel_view (kernel_view seat.old) result completion) }
 {
-    let Some(place) = place_of(kernel, ending.thread) else {
+    let Some(place) = place_of(kernel, completion.thread) else {
         unreachable!()
     };
-    seat.put(cells, place, ending);
+    seat.put(cells, place, completion);
     place
 }
 
-/// Returns the bit of a cell whose thread is to be woken.
+/// Returns the bit of a cell whose thread has to be woken.
 fn bit_of(place: usize) -> u64
     requires { place < 64 }
 {
     1u64 << place
 }
 
-/// Puts an event's endings into their threads' cells, but for that of the thread whose turn it is: closes this thread's
-/// cell, and returns its ending. Sets the bit of every other cell that is filled. No two endings are for one thread, so
-/// the last is put first.
+/// Puts the completions of an event into their threads' cells, and sets the bit of every cell that is filled.
+/// If one of them is for `scratch`'s own thread, it isn't put but returned, and the thread's cell is closed.
+/// No two completions are for the same thread, so their order doesn't matter: the last is put first.
 pub(crate) fn hand_out(
     seat: &mut KernelSeat<Completion>,
     cells: &Cells<Completion>,
     kernel: &Kernel,
-    turn: &mut Turn,
+    scratch: &mut CallScratch,
 ) -> Option<Completion>
     requires few { (cells_id cells.now).slots ≤ 64 }
     requires cells { kernel_id seat.old ≡ cells_id cells.now }
     requires sized { length (threads_of (members_of kernel.now.threads)) ≡ (cells_id cells.now).slots }
-    requires place { place (threads_of (members_of kernel.now.threads)) turn.old.seat.thread ≡ Some turn.old.seat.index }
-    requires apart { AreApart turn.old.endings.value.items }
-    requires may { AllByRecursion (MayPut (threads_of (members_of kernel.now.threads)) (desk seat.old)) turn.old.endings.value.items }
+    requires place { place (threads_of (members_of kernel.now.threads)) scratch.old.seat.thread
+        ≡ Some scratch.old.seat.index }
+    requires apart { AreApart scratch.old.completions.value.items }
+    requires may { AllByRecursion
+        (MayPut (threads_of (members_of kernel.now.threads)) (kernel_view seat.old))
+        scratch.old.completions.value.items }
     ensures cells { kernel_id seat.new ≡ kernel_id seat.old }
-    ensures own { of_thread turn.old.seat.thread turn.old.endings.value.items ≡ one result }
-    ensures handed { Handed (threads_of (members_of kernel.now.threads)) turn.old.seat.thread turn.old.endings.value.items (desk seat.old) (desk seat.new) }
-    ensures seat { (turn.new.seat ≡ turn.old.seat) × (turn.new.pending ≡ turn.old.pending) }
-    ensures emptied { turn.new.endings.value.items ≡ [] }
+    ensures own { of_thread scratch.old.seat.thread scratch.old.completions.value.items ≡ one result }
+    ensures handed { Handed (threads_of (members_of kernel.now.threads)) scratch.old.seat.thread
+        scratch.old.completions.value.items (kernel_view seat.old) (kernel_view seat.new) }
+    ensures seat { (scratch.new.seat ≡ scratch.old.seat) × (scratch.new.pending ≡ scratch.old.pending) }
+    ensures emptied { scratch.new.completions.value.items ≡ [] }
 {
-    let own_place = turn.seat.index();
-    let thread = turn.seat.thread();
-    let endings = &mut *turn.endings;
+    let own_place = scratch.seat.index();
+    let thread = scratch.seat.thread();
+    let completions = &mut *scratch.completions;
     let mut own = None;
-    while let Some(ending) = endings.pop() {
-        if ending.thread == thread {
+    while let Some(completion) = completions.pop() {
+        if completion.thread == thread {
             seat.cancel(cells, own_place);
-            own = Some(ending);
+            own = Some(completion);
         } else {
-            let place = hand_one(seat, cells, kernel, ending);
-            turn.woken |= bit_of(place);
+            let place = hand_one(seat, cells, kernel, completion);
+            scratch.woken |= bit_of(place);
         }
     }
     own

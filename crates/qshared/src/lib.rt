@@ -1,25 +1,28 @@
-//! The locked kernel for real threads: one lock round a kernel and its past, a port for each thread, and cells
-//! through which the endings of calls leave the lock.
+//! The locked kernel for real threads: one lock around a kernel and its history, a port for each thread, and
+//! cells. Threads take completions out of the cells without the lock.
 #![tactic(auto)]
 
 mod admitting;
-mod closing_room;
-mod copies;
+pub mod asking;
+mod call_scratch;
+mod close_buffers;
+pub mod ghost_history;
+pub mod ghost_trace;
 mod handing;
-pub mod kept;
-pub mod laws;
-mod locked;
+pub mod history;
+pub mod history_laws;
+mod lock_state;
 pub mod log;
+mod logged_copy;
+pub mod observed_prefix;
 pub mod parts;
-mod patience;
 pub mod port;
+mod preallocated;
+pub mod recorded_history;
 pub mod report;
-mod room;
-pub mod seen;
 pub mod shared;
+mod spin_policy;
 mod spinning;
 pub mod tie;
 pub mod traced;
-mod turn;
-pub mod unkept;
 mod waker;

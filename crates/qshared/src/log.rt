@@ -1,5 +1,7 @@
-//! How a locked kernel keeps its past.
-ghost use Rattle.std.specs.Prelude.{◌≡◌, ◌∷◌, ◌<◌, ◌^◌, Bool, List, length, IfErr, IfSome, OnOk, is_some, true, false};
+//! The log by which a locked kernel keeps its history.
+
+ghost use Rattle.std.specs.Prelude.{◌≡◌, ◌∷◌, ◌<◌, ◌^◌, Bool, List, length, IfErr, IfSome, OnOk, is_some};
+ghost use Rattle.std.specs.Prelude.{true, false};
 ghost use Rattle.qtables.specs.Members.{member_at};
 ghost use Rattle.qtables.specs.declared.member.Member.{Member};
 ghost use Rattle.qmodel.specs.declared.call.Call.{Call};
@@ -7,21 +9,22 @@ ghost use Rattle.qrules.specs.Facts.{is_blocked};
 ghost use Rattle.qrules.specs.Lawful.{facts_of, IsLawful};
 ghost use Rattle.qrules.specs.Outcome.{Answers};
 ghost use Rattle.qrules.specs.Trace.{Trace};
-ghost use Rattle.qstate.specs.Kept.{members_of};
-ghost use Rattle.qstate.specs.Threads.{IsSeatIn};
+ghost use Rattle.qkernel_state.specs.Kept.{members_of};
+ghost use Rattle.qkernel_state.specs.Threads.{IsSeatIn};
 ghost use Rattle.qshared.specs.Past.{is_down};
 ghost use Rattle.qshared.specs.Performing.{Admits, Refuses};
 
-use crate::copies::Copies;
+use crate::logged_copy::LoggedCopy;
 use qbase::errno::Errno;
-use qkernel::endings::Endings;
+use qkernel::completions::Completions;
 use qkernel::kernel::Kernel;
-use qkernel::seat::Seat;
+use qkernel::thread_ref::ThreadRef;
 use qmodel::call::Call;
 use std::alloc::Global;
 
-/// How a locked kernel keeps its past. A call is noted before it is made, which may be refused; once it was made, it is
-/// an event with its endings. `Kept` keeps the events in memory, and `Unkept` keeps none.
+/// A log by which a locked kernel keeps its history. A call is noted before it is made, and the log may
+/// refuse it. After the call was made, it is an event with its completions. `RecordedHistory` keeps the
+/// events in memory, and `Unkept` keeps none.
 pub trait Log: Drop {
     /// The roster of the kernel.
     ghost roster: { Self → List Member };
@@ -34,18 +37,20 @@ pub trait Log: Drop {
     /// The call that was noted last.
     ghost noted: { Self → Call };
 
-    /// The errors with which a call isn't noted.
+    /// The errors with which the log refuses to note a call.
     ghost refuses: { Refuses };
 
-    /// The condition under which a call is noted.
+    /// The condition under which the log notes a call.
     ghost admits: { Admits };
 
-    /// Copies a call for `note`, before the lock is taken. `None` if the log needs no copy, or the allocator refuses.
-    fn copies(alloc: Global, call: &Call) -> Option<Copies>
+    /// LoggedCopy a call for `note`, before the lock is taken. Returns `None` if the log needs no copy, or if
+    /// the allocator refuses.
+    fn copies(alloc: Global, call: &Call) -> Option<LoggedCopy>
         ensures copied { IfSome result (λ copies. copies ≡ call.now) };
 
-    /// Notes a call before it is made; `made` calls were made before it. A refusal changes nothing.
-    fn note(&mut self, made: u64, call: &Call, copies: Option<Copies>) -> Result<(), Errno>
+    /// Notes a call before it is made; `made` calls were made before it. If the call is refused, nothing
+    /// changes.
+    fn note(&mut self, made: u64, call: &Call, copies: Option<LoggedCopy>) -> Result<(), Errno>
         requires copies { IfSome copies (λ c. c ≡ call.now) }
         requires up { is_down (past self.old) ≡ false }
         requires made { made ≡ length (past self.old) }
@@ -55,16 +60,22 @@ pub trait Log: Drop {
         ensures few { OnOk result (length (past self.old) < 2 ^ 40) }
         ensures refused { IfErr result (λ e. refuses (past self.old) call.now e) };
 
-    /// Adds an event: the noted call, made by the thread at a seat of the kernel, which wasn't blocked, with these
-    /// endings.
-    fn event(&mut self, kernel: &Kernel, seat: &Seat, endings: &Endings)
+    /// Adds an event: the noted call, which the thread at this index made, with these completions. The thread
+    /// wasn't blocked before the call.
+    fn event(&mut self, kernel: &Kernel, seat: &ThreadRef, completions: &Completions)
         requires roster { members_of kernel.now.threads ≡ roster self.old }
         requires seat { IsSeatIn kernel.now.threads seat.now }
         requires ready { ready self.old ≡ true }
         requires up { is_down (past self.old) ≡ false }
         requires lawful { IsLawful (roster self.old) (past self.old) }
-        requires thread { (is_some (member_at (roster self.old) seat.now.thread) ≡ true) × (is_blocked (facts_of (roster self.old) (past self.old)) seat.now.thread ≡ false) }
-        requires answers { Answers (facts_of (roster self.old) (past self.old)) seat.now.thread (noted self.old) endings.now.items }
-        ensures event { past self.new ≡ record { thread = seat.now.thread; call = noted self.old; endings = endings.now.items } ∷ past self.old }
+        requires thread { (is_some (member_at (roster self.old) seat.now.thread) ≡ true)
+            × (is_blocked (facts_of (roster self.old) (past self.old)) seat.now.thread ≡ false) }
+        requires answers { Answers (facts_of (roster self.old) (past self.old)) seat.now.thread
+            (noted self.old) completions.now.items }
+        ensures event { past self.new ≡ record {
+          thread = seat.now.thread;
+          call = noted self.old;
+          completions = completions.now.items;
+        } ∷ past self.old }
         ensures same { roster self.new ≡ roster self.old };
 }

@@ -1,28 +1,29 @@
 //! The parts of a shared kernel.
+
 ghost use Rattle.std.specs.Prelude.{◌≡◌, ◌≤◌, ◌^◌, ◌⊎◌, ◌<◌, ℕ, [], length, map, IfOk, IfErr};
 ghost use lib.ListN.{get_elem?};
 ghost use Rattle.qrules.specs.Facts.{threads_of};
-ghost use Rattle.qstate.specs.Kept.{members_of};
+ghost use Rattle.qkernel_state.specs.Kept.{members_of};
 ghost use Rattle.qkernel.specs.Stands.{StandsAt};
-ghost use Rattle.qhandoff.specs.Steps.{seated_desk};
-ghost use Rattle.qhandoff.specs.Words.{cells_id, kernel_id, count, desk, took, IsRow};
+ghost use Rattle.qhandoff.specs.Steps.{seated_kernel_view};
+ghost use Rattle.qhandoff.specs.Words.{cells_id, kernel_id, count, kernel_view, took, IsRow};
 ghost use Rattle.qshared.specs.Asking.{asked_in, heard_in};
 
+use crate::asking::{KernelCalls, PortCalls, halves};
+use crate::history::{History, Prefix};
 use qbase::errno::Errno;
 use qbase::ids::ThreadNo;
 use qhandoff::cells::Cells;
 use qhandoff::seats::{KernelSeat, ThreadSeat};
 use qkernel::kernel::Kernel;
 use qmodel::call::Completion;
-use qpast::asking::{Asked, Heard, halves};
-use qpast::history::{History, Seen};
 use qtables::member::Member;
 use qtables::roster::Roster;
 use std::alloc::{AllocError, Global};
 use std::sync::ledger::Blank;
 
-/// The parts from which a shared kernel is made. A function over `K: Tie` takes them, on the condition that K names
-/// them.
+/// The parts from which a shared kernel is made. A function over `K: Tie` takes them, on the condition that K
+/// names them.
 #[derive(Drop)]
 pub struct Parts {
     pub(crate) cells: Cells<Completion>,
@@ -32,21 +33,26 @@ pub struct Parts {
     pub(crate) kernel: Kernel,
     pub(crate) threads: Vec<ThreadNo>,
     pub(crate) limit: usize,
-    pub(crate) asked: Vec<Asked>,
-    pub(crate) heard: Vec<Heard>,
+    pub(crate) asked: Vec<PortCalls>,
+    pub(crate) heard: Vec<KernelCalls>,
     pub(crate) history: History,
-    pub(crate) seen: Seen,
-    ghost fits: { (kernel_id seat ≡ cells_id cells) × (desk seat ≡ seated_desk (count cells) (count cells)) × (blank.parts ≡ count cells) },
-    ghost row: { (length seats.items ≡ count cells) × IsRow (cells_id cells) seats.items × ((k : ℕ) → took (get_elem? seats.items k) ≡ []) },
+    pub(crate) seen: Prefix,
+    ghost fits: { (kernel_id seat ≡ cells_id cells)
+        × (kernel_view seat ≡ seated_kernel_view (count cells) (count cells)) × (blank.parts ≡ count cells) },
+    ghost row: { (length seats.items ≡ count cells) × IsRow (cells_id cells) seats.items
+        × ((k : ℕ) → took (get_elem? seats.items k) ≡ []) },
     ghost stands: { StandsAt (members_of kernel.threads) kernel [] },
-    ghost threads_are: { (threads.items ≡ threads_of (members_of kernel.threads)) × (length threads.items ≡ count cells) },
+    ghost threads_are: { (threads.items ≡ threads_of (members_of kernel.threads))
+        × (length threads.items ≡ count cells) },
     ghost bounded: { (2 ≤ limit) × (limit ≤ 2 ^ 20) },
-    ghost halves: { (map (λ a. a.name) asked.items ≡ map (λ h. h.name) heard.items) × (length asked.items ≡ count cells) × (length heard.items ≡ count cells) },
+    ghost halves: { (map (λ a. a.name) asked.items ≡ map (λ h. h.name) heard.items)
+        × (length asked.items ≡ count cells) × (length heard.items ≡ count cells) },
     ghost unseen: { (history.name ≡ seen.name) × (history.trace ≡ []) × (seen.trace ≡ []) },
-    ghost empty: { ((k : ℕ) → asked_in (get_elem? asked.items k) ≡ []) × ((k : ℕ) → heard_in (get_elem? heard.items k) ≡ []) },
+    ghost empty: { ((k : ℕ) → asked_in (get_elem? asked.items k) ≡ [])
+        × ((k : ℕ) → heard_in (get_elem? heard.items k) ≡ []) },
 }
 
-/// Returns the threads of these members.
+/// Returns the thread numbers of these members.
 fn threads_in(alloc: Global, members: &[Member]) -> Result<Vec<ThreadNo>, AllocError>
     ensures { IfOk result (λ ts. ts.items ≡ threads_of members.now) }
 {
@@ -58,10 +64,12 @@ fn threads_in(alloc: Global, members: &[Member]) -> Result<Vec<ThreadNo>, AllocE
 }
 
 /// Returns `many` empty lists of calls, each in two halves.
-fn lists(alloc: Global, many: usize) -> Result<(Vec<Asked>, Vec<Heard>), AllocError>
+fn lists(alloc: Global, many: usize) -> Result<(Vec<PortCalls>, Vec<KernelCalls>), AllocError>
     ensures names { IfOk result (λ r. map (λ a. a.name) r.0.items ≡ map (λ h. h.name) r.1.items) }
     ensures many { IfOk result (λ r. (length r.0.items ≡ many) × (length r.1.items ≡ many)) }
-    ensures empty { IfOk result (λ r. ((k : ℕ) → asked_in (get_elem? r.0.items k) ≡ []) × ((k : ℕ) → heard_in (get_elem? r.1.items k) ≡ [])) }
+    ensures empty { IfOk result
+        (λ r. ((k : ℕ) → asked_in (get_elem? r.0.items k) ≡ [])
+        × ((k : ℕ) → heard_in (get_elem? r.1.items k) ≡ [])) }
 {
     let mut asked = Vec::with_capacity(alloc, many)?;
     let mut heard = Vec::with_capacity(alloc, many)?;
@@ -73,18 +81,19 @@ fn lists(alloc: Global, many: usize) -> Result<(Vec<Asked>, Vec<Heard>), AllocEr
     Ok((asked, heard))
 }
 
-/// The most events that a past in memory may have: 1,048,576.
+/// The most events that a history in memory may have: 1,048,576.
 const TRACE_LIMIT: u32 = 1 << 20;
 
 impl Parts {
-    /// Makes the parts of a kernel for these threads, whose trace has at most `trace_limit` events. Returns `Inval`
-    /// unless that is 2 to 1,048,576, and `NoMemory` if the allocator refuses. A kernel without a past ignores the
-    /// limit.
-    /// `two_threads.rt` of `crates/balsaeuchre_uses` hands them to a function over `K: Tie`.
+    /// Makes the parts of a kernel for these threads, whose trace has at most `trace_limit` events. A kernel
+    /// that keeps no history ignores the limit. Fails with `Inval` unless the limit is from 2 to 1,048,576,
+    /// and with `NoMemory` if the allocator refuses.
+    /// `two_threads.rt` of `crates/balsaeuchre_examples` hands them to a function over `K: Tie`.
     pub fn new(alloc: Global, roster: &Roster, trace_limit: u32) -> Result<Parts, Errno>
         ensures roster { IfOk result (λ p. members_of p.kernel.threads ≡ roster.now) }
         ensures limit { IfOk result (λ p. p.limit ≡ trace_limit) }
-        ensures error { IfErr result (λ e. ((e ≡ Errno.Inval) × ((trace_limit < 2) ⊎ (2 ^ 20 < trace_limit))) ⊎ ((e ≡ Errno.NoMemory) × (2 ≤ trace_limit) × (trace_limit ≤ 2 ^ 20))) }
+        ensures error { IfErr result (λ e. ((e ≡ Errno.Inval) × ((trace_limit < 2) ⊎ (2 ^ 20 < trace_limit)))
+            ⊎ ((e ≡ Errno.NoMemory) × (2 ≤ trace_limit) × (trace_limit ≤ 2 ^ 20))) }
     {
         if trace_limit < 2 || trace_limit > TRACE_LIMIT {
             return Err(Errno::Inval);

@@ -1,5 +1,7 @@
 //! The shared kernel: opening it, closing it, and waking threads.
-ghost use Rattle.std.specs.Prelude.{◌≡◌, ◌≤◌, ◌++◌, ℕ, [], length, map, sum, IfOk, IfErr, OnOk, IsTrue, ◌↔◌, ◌==◌, Some, false, not, vec_capacity};
+
+ghost use Rattle.std.specs.Prelude.{◌≡◌, ◌≤◌, ◌++◌, ℕ, [], length, map, sum, IfOk, IfErr, OnOk, IsTrue, ◌↔◌};
+ghost use Rattle.std.specs.Prelude.{◌==◌, Some, false, not, vec_capacity};
 ghost use mathlib.Core.Option.{some};
 ghost use lib.ListN.{get_elem?};
 ghost use Rattle.qtables.specs.Members.{IsRoster};
@@ -7,7 +9,7 @@ ghost use Rattle.qrules.specs.Facts.{threads_of};
 ghost use Rattle.qrules.specs.Lawful.{IsLawful};
 ghost use Rattle.qrules.specs.Trace.{followed_by};
 ghost use Rattle.qrules.specs.Properties.{HasProperties};
-ghost use Rattle.qstate.specs.Kept.{members_of};
+ghost use Rattle.qkernel_state.specs.Kept.{members_of};
 ghost use Rattle.qhandoff.specs.Words.{cells_id, thread_of, taken, took, IsRow};
 ghost use Rattle.qshared.specs.Asking.{AreCallsOf, asked_in};
 ghost use Rattle.qshared.specs.Due.{AreDue, AreKnown, collected};
@@ -15,17 +17,19 @@ ghost use Rattle.qshared.specs.Naming.{AreParts, AreAll};
 ghost use Rattle.qshared.specs.Past.{AreSeen, RiseByThread};
 ghost use Rattle.qshared.specs.Unkept.{HasPast};
 
-use crate::closing_room::ClosingRoom;
-use crate::kept::Kept;
-use crate::locked::Locked;
+use crate::asking::{KernelCalls, PortCalls};
+use crate::call_scratch::CallScratch;
+use crate::close_buffers::CloseBuffers;
+use crate::ghost_history::GhostHistory;
+use crate::history::{History, Prefix};
+use crate::lock_state::LockState;
 use crate::log::Log;
 use crate::parts::Parts;
 use crate::port::Port;
-use crate::report::{Report, Tally};
+use crate::recorded_history::RecordedHistory;
+use crate::report::{EventCounts, Report};
 use crate::tie::Tie;
 use crate::traced::Traced;
-use crate::turn::Turn;
-use crate::unkept::Unkept;
 use crate::waker::Waker;
 use crossbeam_utils::CachePadded;
 use crossbeam_utils::sync::Parker;
@@ -35,8 +39,6 @@ use qhandoff::cells::Cells;
 use qhandoff::seats::ThreadSeat;
 use qkernel::kernel::Kernel;
 use qmodel::call::Completion;
-use qpast::asking::{Asked, Heard};
-use qpast::history::{History, Seen};
 use std::alloc::{AllocError, Global};
 use std::sync::Mutex;
 use std::sync::ledger::Share;
@@ -45,16 +47,17 @@ use std::sync::ledger::Share;
 #[derive(Drop)]
 pub struct Shared<K: Tie, L: Log> {
     pub(crate) cells: Cells<Completion>,
-    // Padded and in a box, so that a thread that waits for the lock looks at a cache line that has nothing else.
-    pub(crate) lock: CachePadded<Mutex<Box<Locked<K, L>>>>,
-    // One for each port, by the number of its cell.
+    // It is padded, and its value is in a box. So a thread that spins for the lock reads a cache line that
+    // has nothing else.
+    pub(crate) lock: CachePadded<Mutex<Box<LockState<K, L>>>>,
+    // One for each port, by the index of its cell.
     wakers: Vec<Waker>,
-    // Whether a thread looks for some microseconds before it sleeps.
+    // Whether a thread spins for some microseconds before it sleeps.
     pub(crate) looks: bool,
     ghost cells_are: { cells_id cells ≡ K.names.cells },
 }
 
-/// What a shared kernel leaves when it is closed.
+/// The log of a closed kernel, the number of each port's calls, and the completions that weren't collected.
 #[derive(Drop)]
 struct Closed<L> {
     log: L,
@@ -62,7 +65,7 @@ struct Closed<L> {
     left: Vec<Completion>,
 }
 
-/// Returns the completions without the numbers of their cells.
+/// Returns the completions without the indices of their cells.
 fn without_places(mut left: Vec<(usize, Completion)>, mut room: Vec<Completion>) -> Vec<Completion>
     requires room { (room.items ≡ []) × (length left.items ≤ vec_capacity room) }
     ensures { result.items ≡ map (λ x. x.1) left.items }
@@ -75,24 +78,29 @@ fn without_places(mut left: Vec<(usize, Completion)>, mut room: Vec<Completion>)
     room
 }
 
-/// Makes a port for each seat, with its share of the ledger, and what wakes the ports' threads.
+/// Makes a port for each token, with its share of the ledger, and the wakers of the ports' threads.
 fn ports_for<K: Tie>(
     kernel: &Kernel,
     threads: &[ThreadNo],
     seats: Vec<ThreadSeat<Completion>>,
-    mut asked: Vec<Asked>,
+    mut asked: Vec<PortCalls>,
     spare: &mut Share<K>,
-    seen: &Seen,
+    seen: &Prefix,
 ) -> Result<(Vec<Port<K>>, Vec<Waker>), AllocError>
-    requires roster { IsRoster K.names.roster × (threads.now ≡ threads_of K.names.roster) × (members_of kernel.now.threads ≡ K.names.roster) }
-    requires seats { (length seats.items ≡ length threads.now) × IsRow K.names.cells seats.items × ((k : ℕ) → took (get_elem? seats.items k) ≡ []) }
-    requires asked { (map (λ a. a.name) asked.items ≡ K.names.lists) × (length asked.items ≡ K.names.cells.slots) × ((k : ℕ) → asked_in (get_elem? asked.items k) ≡ []) }
+    requires roster { IsRoster K.names.roster × (threads.now ≡ threads_of K.names.roster)
+        × (members_of kernel.now.threads ≡ K.names.roster) }
+    requires seats { (length seats.items ≡ length threads.now) × IsRow K.names.cells seats.items
+        × ((k : ℕ) → took (get_elem? seats.items k) ≡ []) }
+    requires asked { (map (λ a. a.name) asked.items ≡ K.names.lists)
+        × (length asked.items ≡ K.names.cells.slots) × ((k : ℕ) → asked_in (get_elem? asked.items k) ≡ []) }
     requires sized { length threads.now ≡ K.names.cells.slots }
     requires spare { (spare.old.parts ≡ length seats.items) × (spare.old.amount ≡ 0) }
     requires seen { (seen.now.name ≡ K.names.history) × (seen.now.trace ≡ []) }
     ensures spare { OnOk result ((spare.new.parts ≡ 0) × (spare.new.amount ≡ 0)) }
     ensures ports { IfOk result (λ r. AreAll (λ p. thread_of p.seat) K.names.cells.slots r.0.items) }
-    ensures new { IfOk result (λ r. (k : ℕ) (p : _) → get_elem? r.0.items k ≡ some p → (p.calls ≡ 0) × (p.turn.pending ≡ false) × (collected p.last.trace p.thread (taken p.seat) ≡ []) × (p.asked.calls ≡ []) × (p.seen.trace ≡ [])) }
+    ensures new { IfOk result (λ r. (k : ℕ) (p : _) → get_elem? r.0.items k ≡ some p → (p.calls ≡ 0)
+        × (p.scratch.pending ≡ false) × (collected p.last.trace p.thread (taken p.seat) ≡ [])
+        × (p.asked.calls ≡ []) × (p.seen.trace ≡ [])) }
 {
     let alloc = kernel.alloc();
     let mut ports = Vec::with_capacity(alloc, seats.len())?;
@@ -108,20 +116,27 @@ fn ports_for<K: Tie>(
         let Some(place) = kernel.seat(thread) else {
             unreachable!()
         };
-        let turn = Turn::new(alloc, place)?;
-        let port = Port::new(turn, seat, spare.split_off(1, 0), parker, own, seen.again());
+        let scratch = CallScratch::new(alloc, place)?;
+        let port = Port::new(
+            scratch,
+            seat,
+            spare.split_off(1, 0),
+            parker,
+            own,
+            seen.again(),
+        );
         ports.push_reserved(port);
     }
     Ok((ports, wakers))
 }
 
-/// Takes the ports apart: collects their seats, the number of calls of each, the calls that each asked for, and the sum
-/// of all their shares. The past goes on from what each port saw.
+/// Takes the ports apart. Gathers their tokens, the number of calls of each, the list of calls that each
+/// asked for, and the sum of all their shares. The history extends the prefix that each port has seen.
 fn gather<K: Tie>(
     ports: Vec<Port<K>>,
     seats: &mut Vec<ThreadSeat<Completion>>,
     calls: &mut Vec<u64>,
-    asked: &mut Vec<Asked>,
+    asked: &mut Vec<PortCalls>,
     spare: &mut Share<K>,
     history: &mut History,
 )
@@ -153,8 +168,8 @@ fn gather<K: Tie>(
     }
 }
 
-/// States that the two halves of each of these lists are equal.
-fn agree(mut asked: Vec<Asked>, mut heard: Vec<Heard>)
+/// Guarantees that the two halves of each of these lists are equal.
+fn agree(mut asked: Vec<PortCalls>, mut heard: Vec<KernelCalls>)
     requires { map (λ a. a.name) asked.items ≡ map (λ h. h.name) heard.items }
     ensures { map (λ a. a.calls) asked.items ≡ map (λ h. h.calls) heard.items }
 {
@@ -167,13 +182,15 @@ fn agree(mut asked: Vec<Asked>, mut heard: Vec<Heard>)
 }
 
 impl<K: Tie, L: Log> Shared<K, L> {
-    /// Opens a kernel of these parts whose past is kept by the log, with a port for each thread, in rising thread
-    /// number.
+    /// Opens a kernel of these parts, whose history the log keeps. Returns a port for each thread, in
+    /// ascending order of thread number.
     fn with_log(parts: Parts, log: L) -> Result<(Shared<K, L>, Vec<Port<K>>), AllocError>
         requires named { AreParts K.names K.name K.parts parts }
         requires log { (L.roster log ≡ K.names.roster) × (L.past log ≡ []) }
         ensures ports { IfOk result (λ r. AreAll (λ p. thread_of p.seat) K.names.cells.slots r.1.items) }
-        ensures new { IfOk result (λ r. (k : ℕ) (p : _) → get_elem? r.1.items k ≡ some p → (p.calls ≡ 0) × (p.turn.pending ≡ false) × (collected p.last.trace p.thread (taken p.seat) ≡ []) × (p.asked.calls ≡ []) × (p.seen.trace ≡ [])) }
+        ensures new { IfOk result (λ r. (k : ℕ) (p : _) → get_elem? r.1.items k ≡ some p → (p.calls ≡ 0)
+            × (p.scratch.pending ≡ false) × (collected p.last.trace p.thread (taken p.seat) ≡ [])
+            × (p.asked.calls ≡ []) × (p.seen.trace ≡ [])) }
     {
         let Parts {
             cells,
@@ -191,11 +208,11 @@ impl<K: Tie, L: Log> Shared<K, L> {
         let _made = kernel.made();
         let alloc = kernel.alloc();
         let many = seats.len();
-        let room = ClosingRoom::new(alloc, many)?;
+        let room = CloseBuffers::new(alloc, many)?;
         let (book, mut spare) = blank.open::<K>();
         let (ports, wakers) = ports_for(&kernel, &threads, seats, asked, &mut spare, &seen)?;
         let traced = Traced::new(kernel, seat, log, history);
-        let locked = Locked::new(traced, book, spare, room, heard);
+        let locked = LockState::new(traced, book, spare, room, heard);
         let lock = CachePadded::new(Mutex::new(Box::new(alloc, locked)?));
         let shared = Shared {
             cells,
@@ -206,9 +223,9 @@ impl<K: Tie, L: Log> Shared<K, L> {
         Ok((shared, ports))
     }
 
-    /// Sets how many processors the ports' threads run on, as `std::thread::available_parallelism` returns it. With one
-    /// processor a thread that waits sleeps at once; with more, which is what a kernel is opened for, it first looks for
-    /// some microseconds whether it still has to wait.
+    /// Sets how many processors the ports' threads run on, as `std::thread::available_parallelism` returns
+    /// it. With one processor, a thread that waits sleeps at once. With more, which is the default, it spins
+    /// for some microseconds first.
     /// `course.rt` of the bench's round trips sets it.
     pub fn set_processors(&mut self, processors: usize)
         ensures looks { self.new.looks ≡ not (processors == 1) }
@@ -217,8 +234,8 @@ impl<K: Tie, L: Log> Shared<K, L> {
         self.looks = processors != 1;
     }
 
-    /// Returns whether these are all ports of the kernel, in rising thread number.
-    /// It is asked before `finish`, as in `opening.rt` of `crates/qcalls`.
+    /// Returns whether these are all ports of the kernel, in ascending order of thread number.
+    /// It serves to check the ports before `finish`, as in `opening.rt` of `crates/balsaeuchre_calls`.
     pub fn all(&self, ports: &[Port<K>]) -> bool
         ensures { IsTrue result ↔ AreAll (λ p. thread_of p.seat) K.names.cells.slots ports.now }
     {
@@ -233,7 +250,7 @@ impl<K: Tie, L: Log> Shared<K, L> {
         true
     }
 
-    /// Sets whether the thread of a cell sleeps or is about to, so that others wake it only then.
+    /// Sets whether the thread of a cell sleeps or is about to sleep. Other threads wake it only then.
     pub(crate) fn set_asleep(&self, place: usize, asleep: bool) {
         if place < self.wakers.len() {
             self.wakers[place].set_asleep(asleep);
@@ -255,20 +272,24 @@ impl<K: Tie, L: Log> Shared<K, L> {
         }
     }
 
-    /// Takes the kernel and all its ports apart. The ports must be all, in rising thread number.
+    /// Takes the kernel and all its ports apart. The list must have all ports, in ascending order of thread
+    /// number.
     fn close(self, ports: Vec<Port<K>>) -> Closed<L>
         requires all { AreAll (λ p. thread_of p.seat) K.names.cells.slots ports.items }
         ensures calls { result.calls.items ≡ map (λ p. p.calls) ports.items }
         ensures sum { sum result.calls.items ≡ length (L.past result.log) }
         ensures asked { AreCallsOf K.names.roster (map (λ p. p.asked.calls) ports.items) (L.past result.log) }
         ensures seen { AreSeen (L.past result.log) (map (λ p. p.seen.trace) ports.items) }
-        ensures lawful { IsLawful K.names.roster (L.past result.log) × HasProperties K.names.roster (L.past result.log) }
+        ensures lawful { IsLawful K.names.roster (L.past result.log)
+            × HasProperties K.names.roster (L.past result.log) }
         ensures rises { RiseByThread result.left.items }
         ensures known { AreKnown K.names.roster result.left.items }
-        ensures due { AreDue K.names.roster (map (λ p. collected p.last.trace p.thread (taken p.seat)) ports.items) result.left.items (L.past result.log) }
+        ensures due { AreDue K.names.roster
+            (map (λ p. collected p.last.trace p.thread (taken p.seat)) ports.items) result.left.items
+            (L.past result.log) }
     {
         let Shared { cells, lock, .. } = self;
-        let Locked {
+        let LockState {
             traced,
             mut book,
             mut spare,
@@ -276,7 +297,7 @@ impl<K: Tie, L: Log> Shared<K, L> {
             heard,
             ..
         } = Box::into_inner(lock.into_inner().into_inner());
-        let ClosingRoom {
+        let CloseBuffers {
             mut seats,
             mut calls,
             left: room,
@@ -308,37 +329,46 @@ impl<K: Tie, L: Log> Shared<K, L> {
     }
 }
 
-impl<K: Tie> Shared<K, Kept<K>> {
-    /// Opens a kernel of these parts that keeps its past in memory, with a port for each thread, in rising thread
-    /// number. `NoMemory` is the only error, and drops the parts.
-    /// `two_threads.rt` of `crates/balsaeuchre_uses` opens one.
-    pub fn open(parts: Parts) -> Result<(Shared<K, Kept<K>>, Vec<Port<K>>), Errno>
+impl<K: Tie> Shared<K, RecordedHistory<K>> {
+    /// Opens a kernel of these parts that keeps its history in memory. Returns a port for each thread, in
+    /// ascending order of thread number. The only error is `NoMemory`, which drops the parts.
+    /// `two_threads.rt` of `crates/balsaeuchre_examples` opens one.
+    pub fn open(parts: Parts) -> Result<(Shared<K, RecordedHistory<K>>, Vec<Port<K>>), Errno>
         requires named { AreParts K.names K.name K.parts parts }
         ensures ports { IfOk result (λ r. AreAll (λ p. thread_of p.seat) K.names.cells.slots r.1.items) }
-        ensures new { IfOk result (λ r. (k : ℕ) (p : _) → get_elem? r.1.items k ≡ some p → (p.calls ≡ 0) × (p.turn.pending ≡ false) × (collected p.last.trace p.thread (taken p.seat) ≡ []) × (p.asked.calls ≡ []) × (p.seen.trace ≡ [])) }
+        ensures new { IfOk result (λ r. (k : ℕ) (p : _) → get_elem? r.1.items k ≡ some p → (p.calls ≡ 0)
+            × (p.scratch.pending ≡ false) × (collected p.last.trace p.thread (taken p.seat) ≡ [])
+            × (p.asked.calls ≡ []) × (p.seen.trace ≡ [])) }
         ensures error { IfErr result (λ e. e ≡ Errno.NoMemory) }
     {
         let alloc = parts.kernel.alloc();
         let _made = parts.kernel.made();
-        let log = Kept::new(alloc, parts.threads.len(), parts.limit)?;
+        let log = RecordedHistory::new(alloc, parts.threads.len(), parts.limit)?;
         Ok(Shared::with_log(parts, log)?)
     }
 
-    /// Closes the kernel, which takes all its ports back, in rising thread number. Returns the trace, the number of
-    /// events of each port, and the endings that weren't collected. The endings that a port took, followed by the one
-    /// that is left for its thread, are those due to the thread.
-    /// `opening.rt` of `crates/qcalls` closes one.
+    /// Closes the kernel and takes back all its ports, in ascending order of thread number. Returns the
+    /// trace, the number of events of each port, and the completions that weren't collected.
+    ///
+    /// A thread's completions in the history are the completions that its port took, followed by the
+    /// completion that is left for it, if any.
+    /// `opening.rt` of `crates/balsaeuchre_calls` closes one.
     pub fn finish(self, ports: Vec<Port<K>>) -> Report
         requires all { AreAll (λ p. thread_of p.seat) K.names.cells.slots ports.items }
         ensures calls { result.calls.items ≡ map (λ p. p.calls) ports.items }
         ensures sum { sum result.calls.items ≡ length result.trace.events }
         ensures within { length result.trace.events ≤ K.names.limit }
-        ensures asked { AreCallsOf K.names.roster (map (λ p. p.asked.calls) ports.items) (followed_by [] result.trace.events) }
+        ensures asked { AreCallsOf K.names.roster (map (λ p. p.asked.calls) ports.items)
+            (followed_by [] result.trace.events) }
         ensures seen { AreSeen (followed_by [] result.trace.events) (map (λ p. p.seen.trace) ports.items) }
-        ensures lawful { (result.trace.first ≡ 1) × IsLawful K.names.roster (followed_by [] result.trace.events) × HasProperties K.names.roster (followed_by [] result.trace.events) }
+        ensures lawful { (result.trace.first ≡ 1)
+            × IsLawful K.names.roster (followed_by [] result.trace.events)
+            × HasProperties K.names.roster (followed_by [] result.trace.events) }
         ensures rises { RiseByThread result.left.items }
         ensures known { AreKnown K.names.roster result.left.items }
-        ensures due { AreDue K.names.roster (map (λ p. collected p.last.trace p.thread (taken p.seat)) ports.items) result.left.items (followed_by [] result.trace.events) }
+        ensures due { AreDue K.names.roster
+            (map (λ p. collected p.last.trace p.thread (taken p.seat)) ports.items) result.left.items
+            (followed_by [] result.trace.events) }
     {
         let Closed { log, calls, left } = self.close(ports);
         Report {
@@ -349,30 +379,38 @@ impl<K: Tie> Shared<K, Kept<K>> {
     }
 }
 
-impl<K: Tie> Shared<K, Unkept<K>> {
-    /// Opens a kernel of these parts that keeps no past, with a port for each thread, in rising thread number. The
-    /// limit of the parts is ignored. `NoMemory` is the only error, and drops the parts.
+impl<K: Tie> Shared<K, GhostHistory<K>> {
+    /// Opens a kernel of these parts that keeps no history. Returns a port for each thread, in ascending
+    /// order of thread number. The limit of the parts is ignored. The only error is `NoMemory`, which drops
+    /// the parts.
     /// `course.rt` of `bench/programs/qroundtrips` opens and closes one.
-    pub fn open(parts: Parts) -> Result<(Shared<K, Unkept<K>>, Vec<Port<K>>), Errno>
+    pub fn open(parts: Parts) -> Result<(Shared<K, GhostHistory<K>>, Vec<Port<K>>), Errno>
         requires named { AreParts K.names K.name K.parts parts }
         ensures ports { IfOk result (λ r. AreAll (λ p. thread_of p.seat) K.names.cells.slots r.1.items) }
-        ensures new { IfOk result (λ r. (k : ℕ) (p : _) → get_elem? r.1.items k ≡ some p → (p.calls ≡ 0) × (p.turn.pending ≡ false) × (collected p.last.trace p.thread (taken p.seat) ≡ []) × (p.asked.calls ≡ []) × (p.seen.trace ≡ [])) }
+        ensures new { IfOk result (λ r. (k : ℕ) (p : _) → get_elem? r.1.items k ≡ some p → (p.calls ≡ 0)
+            × (p.scratch.pending ≡ false) × (collected p.last.trace p.thread (taken p.seat) ≡ [])
+            × (p.asked.calls ≡ []) × (p.seen.trace ≡ [])) }
         ensures error { IfErr result (λ e. e ≡ Errno.NoMemory) }
     {
-        Ok(Shared::with_log(parts, Unkept::new())?)
+        Ok(Shared::with_log(parts, GhostHistory::new())?)
     }
 
-    /// Closes the kernel, which takes all its ports back, in rising thread number. Returns the number of events of each
-    /// port, and the endings that weren't collected. There is a past by which the endings that a port took, followed by
-    /// the one that is left for its thread, are those due to the thread.
-    pub fn finish(self, ports: Vec<Port<K>>) -> Tally
+    /// Closes the kernel and takes back all its ports, in ascending order of thread number. Returns the
+    /// number of events of each port, and the completions that weren't collected.
+    ///
+    /// There is a history of the calls, although it isn't kept. A thread's completions in it are the
+    /// completions that its port took, followed by the completion that is left for it, if any.
+    pub fn finish(self, ports: Vec<Port<K>>) -> EventCounts
         requires all { AreAll (λ p. thread_of p.seat) K.names.cells.slots ports.items }
         ensures calls { result.calls.items ≡ map (λ p. p.calls) ports.items }
         ensures rises { RiseByThread result.left.items }
         ensures known { AreKnown K.names.roster result.left.items }
-        ensures past { HasPast K.names.roster (map (λ p. collected p.last.trace p.thread (taken p.seat)) ports.items) (map (λ p. p.asked.calls) ports.items) (map (λ p. p.seen.trace) ports.items) result.calls.items result.left.items }
+        ensures past { HasPast K.names.roster
+            (map (λ p. collected p.last.trace p.thread (taken p.seat)) ports.items)
+            (map (λ p. p.asked.calls) ports.items) (map (λ p. p.seen.trace) ports.items) result.calls.items
+            result.left.items }
     {
         let Closed { calls, left, .. } = self.close(ports);
-        Tally { calls, left }
+        EventCounts { calls, left }
     }
 }

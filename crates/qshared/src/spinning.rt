@@ -1,15 +1,18 @@
-//! Taking a lock.
+//! Takes a lock, and spins for it before sleeping.
 
 use crossbeam_utils::Backoff;
 use std::sync::{Mutex, MutexGuard, Wait};
 
-/// The number of times that a thread looks whether the lock is free before it sleeps. It pauses between two looks,
-/// twice as long each time up to 64 pauses of the processor, for 20 to 300 microseconds in all, in which many calls can
-/// be made under the lock. It never yields its core: on a busy machine a process that computes would keep it for
+/// The number of times that a thread tries the lock before it sleeps. It pauses between two tries, each time
+/// twice as long as before, up to 64 pause instructions. All tries take 20 to 300 microseconds, in which many
+/// calls can be made under the lock.
+///
+/// The thread never yields its core: on a busy machine a process that computes would keep the core for
 /// milliseconds.
 const LOOKS: u32 = 80;
 
-/// Takes the lock; waits for it if another thread holds it, and if `looks` is false sleeps at once.
+/// Takes the lock, and waits for it if another thread holds it. Spins before it sleeps if `looks` is true,
+/// and otherwise sleeps at once.
 pub(crate) fn lock<'a, T: Drop, R: Wait>(
     mutex: &'a Mutex<T>,
     looks: bool,

@@ -1,39 +1,40 @@
-//! A kernel with its past, and the kernel's seat of the cells.
+//! A kernel with its history, and the kernel's token of the cells.
+
 ghost use Rattle.std.specs.Prelude.{◌≡◌, ◌<◌, ◌≤◌, ◌^◌, [], length, IfSome, Some, true, false};
 ghost use Rattle.qrules.specs.Facts.{threads_of};
 ghost use Rattle.qrules.specs.Lawful.{IsLawful};
 ghost use Rattle.qrules.specs.Properties.{HasProperties};
-ghost use Rattle.qstate.specs.Kept.{members_of};
-ghost use Rattle.qstate.specs.Threads.{IsSeatIn};
+ghost use Rattle.qkernel_state.specs.Kept.{members_of};
+ghost use Rattle.qkernel_state.specs.Threads.{IsSeatIn};
 ghost use Rattle.qkernel.specs.LentCall.{call_lent};
 ghost use Rattle.qkernel.specs.Stands.{AnswersAtTraces, StandsAt};
-ghost use Rattle.qhandoff.specs.Steps.{seated_desk};
-ghost use Rattle.qpast.specs.History.{Extends};
-ghost use Rattle.qhandoff.specs.Words.{cells_id, kernel_id, desk};
+ghost use Rattle.qhandoff.specs.Steps.{seated_kernel_view};
+ghost use Rattle.qshared.specs.History.{Extends};
+ghost use Rattle.qhandoff.specs.Words.{cells_id, kernel_id, kernel_view};
 ghost use Rattle.qshared.specs.Asking.{WaitedBefore, calls_of};
 ghost use Rattle.qshared.specs.Counting.{is_call};
 ghost use Rattle.qshared.specs.Due.{place};
 ghost use Rattle.qshared.specs.Performing.{Performs, outcome};
 
+use crate::call_scratch::CallScratch;
 use crate::handing::hand_out;
+use crate::history::{History, Prefix};
 use crate::log::Log;
 use crate::port::Called;
 use crate::tie::Tie;
-use crate::turn::Turn;
 use qbase::errno::Errno;
 use qhandoff::cells::Cells;
 use qhandoff::seats::KernelSeat;
-use qkernel::endings::Endings;
+use qkernel::completions::Completions;
 use qkernel::kernel::Kernel;
 use qkernel::lent_call::LentCall;
-use qkernel::seat::Seat;
+use qkernel::thread_ref::ThreadRef;
 use qmodel::call::{Call, Completion};
-use qpast::history::{History, Seen};
 use std::marker::{Model, PhantomData};
 use std::snapshot::Snapshot;
 
-/// A kernel with its past, and the kernel's seat of the cells: the value under the lock, without the count of the
-/// ports' calls.
+/// A kernel with its history, and the kernel's token of the cells. This is the value under the lock, without
+/// the count of the ports' calls.
 #[derive(Drop)]
 pub struct Traced<K: Tie, L: Log> {
     pub(crate) kernel: Kernel,
@@ -46,18 +47,24 @@ pub struct Traced<K: Tie, L: Log> {
 impl<K: Tie, L: Log> Model for Traced<K, L> {
     ghost use Rattle.std.specs.Prelude.{◌≡◌};
     ghost use Rattle.qrules.specs.Facts.{threads_of};
-    ghost use Rattle.qstate.specs.Kept.{members_of};
-    ghost use Rattle.qhandoff.specs.Words.{kernel_id, desk};
+    ghost use Rattle.qkernel_state.specs.Kept.{members_of};
+    ghost use Rattle.qhandoff.specs.Words.{kernel_id, kernel_view};
     ghost use Rattle.qshared.specs.UnderLock.{UnderLock, IsUnderLock};
 
     ghost Value = { UnderLock };
 
-    ghost view = { λ t. record { kernel = t.kernel; desk = desk t.seat; past = L.past t.log } };
+    ghost view = { λ t. record { kernel = t.kernel; kernel_view = kernel_view t.seat; past = L.past t.log } };
 
-    ghost invariant = { λ t. (kernel_id t.seat ≡ K.names.cells) × (L.roster t.log ≡ K.names.roster) × IsUnderLock K.names.roster K.names.cells.slots t.kernel (desk t.seat) (threads_of (members_of t.kernel.threads)) (L.past t.log) × ((t.history.name ≡ K.names.history) × (t.history.trace ≡ L.past t.log)) };
+    ghost invariant = { λ t. (
+        (kernel_id t.seat ≡ K.names.cells)
+        × (L.roster t.log ≡ K.names.roster)
+        × IsUnderLock K.names.roster K.names.cells.slots t.kernel (kernel_view t.seat)
+        (threads_of (members_of t.kernel.threads)) (L.past t.log)
+        × ((t.history.name ≡ K.names.history) × (t.history.trace ≡ L.past t.log))) };
 }
 
-// Returns the outcome of a call that is an event: `Done` if its own ending was among the endings, else `Blocked`.
+// Returns the outcome of a call that is an event: `Done` if its own completion came in the event, and
+// otherwise `Blocked`.
 fn ended_or_open(own: Option<Completion>) -> Called
     ensures { result ≡ outcome own }
 {
@@ -94,35 +101,35 @@ fn lent_of(call: &Call) -> Option<LentCall<'_>>
     }
 }
 
-/// Makes a call of the thread at a seat. The bytes of a Reply or a Write are lent, and the call stays in `lent`, so that
-/// they aren't freed under the lock.
+/// Makes a call of the thread at this index. The bytes of a Reply or a Write are only lent to the kernel, and
+/// the call stays in `lent`, so that they aren't freed under the lock.
 fn make_at(
     kernel: &mut Kernel,
-    seat: &Seat,
+    seat: &ThreadRef,
     call: Call,
     lent: &mut Option<Call>,
-    endings: &mut Endings,
+    completions: &mut Completions,
 )
     requires few { kernel.old.made < 2 ^ 40 }
     requires seat { IsSeatIn kernel.old.threads seat.now }
-    requires none { endings.old.items ≡ [] }
-    ensures event { AnswersAtTraces kernel.old seat.now.thread call endings.new.items kernel.new }
+    requires none { completions.old.items ≡ [] }
+    ensures event { AnswersAtTraces kernel.old seat.now.thread call completions.new.items kernel.new }
     ensures roster { members_of kernel.new.threads ≡ members_of kernel.old.threads }
 {
     if let Some(lending) = lent_of(&call) {
-        let Ok(()) = kernel.call_lent_at(seat, &lending, endings) else {
+        let Ok(()) = kernel.call_lent_at(seat, &lending, completions) else {
             unreachable!();
         };
         *lent = Some(call);
         return;
     }
-    let Ok(()) = kernel.call_at(seat, call, endings) else {
+    let Ok(()) = kernel.call_at(seat, call, completions) else {
         unreachable!();
     };
 }
 
 impl<K: Tie, L: Log> Traced<K, L> {
-    /// Makes the value for a kernel that made no call, with an empty past.
+    /// Makes the value for a kernel that has made no call, with an empty history.
     pub(crate) fn new(
         kernel: Kernel,
         seat: KernelSeat<Completion>,
@@ -131,8 +138,10 @@ impl<K: Tie, L: Log> Traced<K, L> {
     ) -> Traced<K, L>
         requires history { (history.name ≡ K.names.history) × (history.trace ≡ []) }
         requires log { (L.roster log ≡ K.names.roster) × (L.past log ≡ []) }
-        requires seat { (kernel_id seat ≡ K.names.cells) × (desk seat ≡ seated_desk K.names.cells.slots K.names.cells.slots) }
-        requires roster { (members_of kernel.threads ≡ K.names.roster) × StandsAt (members_of kernel.threads) kernel [] }
+        requires seat { (kernel_id seat ≡ K.names.cells)
+            × (kernel_view seat ≡ seated_kernel_view K.names.cells.slots K.names.cells.slots) }
+        requires roster { (members_of kernel.threads ≡ K.names.roster)
+            × StandsAt (members_of kernel.threads) kernel [] }
         requires sized { length (threads_of (members_of kernel.threads)) ≡ K.names.cells.slots }
         ensures { result.past ≡ [] }
     {
@@ -146,7 +155,7 @@ impl<K: Tie, L: Log> Traced<K, L> {
         }
     }
 
-    /// Returns the number of events of the past, which is lawful.
+    /// Returns the number of events of the history, which is valid.
     pub fn len(&self) -> u64
         ensures value { result ≡ length self.now.past }
         ensures lawful { IsLawful K.names.roster self.now.past × HasProperties K.names.roster self.now.past }
@@ -155,27 +164,34 @@ impl<K: Tie, L: Log> Traced<K, L> {
         self.kernel.made()
     }
 
-    /// Makes a call of the thread whose turn it is, for `Port::call`, which holds the lock: opens the thread's cell, makes
-    /// the call, and puts every other thread's ending into its cell. If the call ended, closes the thread's cell and
-    /// returns its ending. What was seen is then the whole past. Refused, in this order: `Down` after Shutdown, `Busy` if
-    /// the thread has an open call or an ending that it didn't take, and then the errors of the log.
+    /// Makes a call of the thread that `scratch` belongs to, for `Port::call`, which holds the lock. Opens
+    /// the thread's cell, makes the call, and puts every other thread's completion into its cell. If the call
+    /// completed, closes the thread's cell and returns the completion. Afterwards `seen` is the whole
+    /// history.
+    ///
+    /// The call is refused with `Down` after a Shutdown. Otherwise it is refused with `Busy` if the thread
+    /// has an open call, or a completion that it didn't take. Otherwise the log may refuse it.
     pub fn perform(
         &mut self,
         cells: &Cells<Completion>,
-        turn: &mut Turn,
-        seen: &mut Seen,
+        scratch: &mut CallScratch,
+        seen: &mut Prefix,
         call: Call,
     ) -> Called
         requires cells { cells_id cells.now ≡ K.names.cells }
-        requires seat { place (threads_of K.names.roster) turn.old.seat.thread ≡ Some turn.old.seat.index }
-        requires none { turn.old.endings.value.items ≡ [] }
-        requires pending { turn.old.pending ≡ true → WaitedBefore seen.old.trace (calls_of self.old.past turn.old.seat.thread) turn.old.seat.thread }
+        requires seat { place (threads_of K.names.roster) scratch.old.seat.thread
+            ≡ Some scratch.old.seat.index }
+        requires none { scratch.old.completions.value.items ≡ [] }
+        requires pending { scratch.old.pending ≡ true
+            → WaitedBefore seen.old.trace
+            (calls_of self.old.past scratch.old.seat.thread) scratch.old.seat.thread }
         requires seen { seen.old.name ≡ K.names.history }
-        requires copies { IfSome turn.old.copies (λ c. c ≡ call) }
-        ensures idle { is_call result ≡ true → turn.old.pending ≡ false }
-        ensures performs { Performs K.names.roster L.refuses L.admits self.old turn.old.seat.thread call result self.new }
-        ensures seat { (turn.new.seat ≡ turn.old.seat) × (turn.new.pending ≡ turn.old.pending) }
-        ensures none { turn.new.endings.value.items ≡ [] }
+        requires copies { IfSome scratch.old.copies (λ c. c ≡ call) }
+        ensures idle { is_call result ≡ true → scratch.old.pending ≡ false }
+        ensures performs { Performs K.names.roster L.refuses L.admits self.old scratch.old.seat.thread call
+            result self.new }
+        ensures seat { (scratch.new.seat ≡ scratch.old.seat) × (scratch.new.pending ≡ scratch.old.pending) }
+        ensures none { scratch.new.completions.value.items ≡ [] }
         ensures name { seen.new.name ≡ seen.old.name }
         ensures extends { Extends self.old.past seen.old.trace }
         ensures seen { seen.new.trace ≡ self.new.past }
@@ -184,9 +200,9 @@ impl<K: Tie, L: Log> Traced<K, L> {
         if self.kernel.is_down() {
             return Called::Refused(Errno::Down, call);
         }
-        let seat = turn.seat;
+        let seat = scratch.seat;
         let place = seat.index();
-        if turn.pending {
+        if scratch.pending {
             return Called::Refused(Errno::Busy, call);
         }
         if !self.seat.open(cells, place) {
@@ -194,7 +210,7 @@ impl<K: Tie, L: Log> Traced<K, L> {
         }
         let asking = Snapshot::of(&call);
         let made = self.kernel.made();
-        let copies = turn.copies.take();
+        let copies = scratch.copies.take();
         if let Err(errno) = self.log.note(made, &call, copies) {
             self.seat.cancel(cells, place);
             return Called::Refused(errno, call);
@@ -203,15 +219,15 @@ impl<K: Tie, L: Log> Traced<K, L> {
             &mut self.kernel,
             &seat,
             call,
-            &mut turn.lent,
-            &mut *turn.endings,
+            &mut scratch.lent,
+            &mut *scratch.completions,
         );
-        self.log.event(&self.kernel, &seat, &*turn.endings);
+        self.log.event(&self.kernel, &seat, &*scratch.completions);
         let thread = seat.thread();
         let history = &mut self.history;
-        history.add(&thread, &asking, &*turn.endings);
+        history.add(&thread, &asking, &*scratch.completions);
         history.look(seen);
-        let own = hand_out(&mut self.seat, cells, &self.kernel, turn);
+        let own = hand_out(&mut self.seat, cells, &self.kernel, scratch);
         ended_or_open(own)
     }
 }

@@ -1,14 +1,14 @@
-//! Waking the thread of a port.
+//! The wake-up of a port's thread.
 
 use crossbeam_utils::CachePadded;
 use crossbeam_utils::sync::Unparker;
 use std::sync::atomic::{AtomicBool, Ordering};
 
-/// Wakes the thread of one port if it sleeps, and else costs no more than a look.
+/// Wakes the thread of one port if it sleeps. Otherwise this costs only a load of a flag.
 #[derive(Drop)]
 pub(crate) struct Waker {
     unparker: Unparker,
-    // Whether the thread sleeps, or is about to sleep and looks once more for its ending before it does.
+    // Whether the thread sleeps or is about to sleep. It looks for its completion once more before it sleeps.
     asleep: CachePadded<AtomicBool>,
 }
 
@@ -20,13 +20,14 @@ impl Waker {
         }
     }
 
-    /// Sets whether the thread sleeps or is about to. It is set before the thread's last look at its cell, so that
-    /// whoever puts an ending after that look finds it set.
+    /// Sets whether the thread sleeps or is about to sleep. It is set before the thread's last look at its
+    /// cell. So a thread that puts a completion after that look finds it set.
     pub(crate) fn set_asleep(&self, asleep: bool) {
         self.asleep.store(asleep, Ordering::SeqCst);
     }
 
-    /// Wakes the thread if it sleeps or is about to. It is called after the thread's ending was put.
+    /// Wakes the thread if it sleeps or is about to sleep. It is called after the thread's completion was
+    /// put.
     pub(crate) fn wake(&self) {
         if self.asleep.load(Ordering::SeqCst) {
             self.unparker.unpark();

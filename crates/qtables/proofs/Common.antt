@@ -1,7 +1,10 @@
 -- Names of other crates and of the definitions, which many of these proofs use.
 pub use Rattle.qtables.specs.Entries.{IsRising, entry_at, with_record, without_entry}
-pub use Rattle.std.proofs.Common.{Bool, List, [], add-zero, ap, arith, cond, eqb, false, get_or, inl, inr, length, length-append, ltb, not, refl, rules, subst, suc, sym, take, true, zero, ℕ, ◌++◌, ◌+◌, ◌<◌, ◌∙◌, ◌∷◌, ◌≡◌, ◌≢◌, ◌≤◌}
-pub use Rattle.std.proofs.lemmas.Bool.{cases_eq, eq-eqb, eqb-false, eqb-true, le-ltb, lt-ltb, ltb-false, ltb-true, ne_eqb}
+pub use Rattle.std.proofs.Common.{Bool, List, [], add-zero, ap, arith, cond, eqb, false, get_or, inl, inr, length}
+pub use Rattle.std.proofs.Common.{length-append, ltb, not, refl, rules, subst, suc, sym, take, true, zero, ℕ, ◌++◌, ◌+◌}
+pub use Rattle.std.proofs.Common.{◌<◌, ◌∙◌, ◌∷◌, ◌≡◌, ◌≢◌, ◌≤◌}
+pub use Rattle.std.proofs.lemmas.Bool.{cases_eq, eq-eqb, eqb-false, eqb-true, le-ltb, lt-ltb, ltb-false, ltb-true}
+pub use Rattle.std.proofs.lemmas.Bool.{ne_eqb}
 pub use Rattle.std.proofs.lemmas.Bool.Decides.{nat_tests}
 pub use Rattle.std.proofs.lemmas.Cmp.{ranked}
 pub use Rattle.std.proofs.lemmas.List.Sorted.{answers_always}

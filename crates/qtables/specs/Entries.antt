@@ -12,7 +12,7 @@ entry_at (e ∷ entries) id = if e.0 == id then Some e.1 else entry_at entries i
 abbrev pub with_record : {R : Type 0} → List (ℕ × R) → ℕ → R → List (ℕ × R)
 with_record entries id r = map (λ e. (e.0, if e.0 == id then r else e.1)) entries
 
--- the entries without the one of this number
+-- the entries without the entry of this number
 abbrev pub without_entry : {R : Type 0} → List (ℕ × R) → ℕ → List (ℕ × R)
 without_entry entries id = filter (λ e. not (e.0 == id)) entries
 

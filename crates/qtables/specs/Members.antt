@@ -21,7 +21,8 @@ abbrev pub IsRoster : List Member → Type 0
 IsRoster [] = Unit {0}
 IsRoster (m ∷ members) = AllByRecursion (λ x. m.thread < x.thread) members × IsRoster members
 
--- the error with which a thread is refused: it is in the roster already, or else there are 64 threads
+-- the error of adding a thread: Inval if it is in the roster already, and otherwise Again if there are 64
+-- threads
 abbrev pub join_refusal : List Member → ℕ → Option Errno
 join_refusal members thread =
     if is_some (member_at members thread) then Some Inval

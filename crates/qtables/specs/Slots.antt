@@ -1,5 +1,5 @@
--- How a table keeps its entries: each in a slot under a key, with an index of pairs of number and key beside
--- the slots. No public clause cites this module.
+-- How a table keeps its entries: each in a slot under a key, with an index that lists each number with its
+-- key. No public clause cites this module.
 use Rattle.std.specs.Prelude.{◌≡◌, ℕ, List, length, Some, filter_map}
 use Rattle.std.specs.List.{AllByRecursion}
 use Rattle.slab.specs.Slab.{Slab, get, slab_len}

@@ -1,6 +1,7 @@
 //! The open channels.
 
-ghost use Rattle.std.specs.Prelude.{◌≡◌, ◌<◌, ◌≤◌, ◌==◌, nat_lt, ◌+◌, [], ◌∷◌, ◌++◌, length, option_copied, slice_get, if◌then◌else◌, Some, IfErr, IfOk, IfSome, OnOk, OnErr, OnSome};
+ghost use Rattle.std.specs.Prelude.{◌≡◌, ◌<◌, ◌≤◌, ◌==◌, nat_lt, ◌+◌, [], ◌∷◌, ◌++◌, length, option_copied};
+ghost use Rattle.std.specs.Prelude.{slice_get, if◌then◌else◌, Some, IfErr, IfOk, IfSome, OnOk, OnErr, OnSome};
 ghost use Rattle.std.specs.List.{AllByRecursion};
 ghost use Rattle.std.specs.Option.{option_copied_mut, option_map};
 ghost use Rattle.std.specs.Borrow.{sem};
@@ -11,10 +12,11 @@ use qbase::ids::ChannelId;
 use std::alloc::{AllocError, Global};
 use std::marker::Model;
 
-/// The greatest number of channels that may be open at a time (own profile).
+/// The greatest number of channels that may be open at a time, by this kernel's own choice.
 pub const CHANNEL_LIMIT: usize = 64;
 
-/// The open channels: a map from a channel's id to the kernel's record of it. Contracts see the entries in rising id.
+/// The open channels: a map from a channel's id to the kernel's record of it. Contracts see the entries in
+/// rising id.
 #[derive(Drop)]
 pub struct Channels<Record> {
     entries: Entries<Record>,
@@ -55,14 +57,16 @@ impl<Record: Drop> Channels<Record> {
         })
     }
 
-    /// Opens a channel, whose id must be greater than those of all open channels. On an error it returns the record:
-    /// `Again` if 64 channels are open, or else `NoMemory` if the allocator refuses.
+    /// Adds a channel, whose id must be greater than the ids of all open channels. On an error it returns the
+    /// record. The error is `Again` if 64 channels are open, and otherwise `NoMemory` if the allocator
+    /// refuses.
     pub fn create(&mut self, number: ChannelId, entry: Record) -> Result<(), (Errno, Record)>
         requires { AllByRecursion (λ e. e.0 < number) self.old }
         ensures ok { OnOk result (self.new ≡ self.old ++ (number, entry) ∷ []) }
         ensures room { OnOk result (length self.old < 64) }
         ensures err { OnErr result (self.new ≡ self.old) }
-        ensures error { IfErr result (λ e. e.0 ≡ (if nat_lt (length self.old) 64 then Errno.NoMemory else Errno.Again)) }
+        ensures error { IfErr result
+            (λ e. e.0 ≡ (if nat_lt (length self.old) 64 then Errno.NoMemory else Errno.Again)) }
         ensures returned { IfErr result (λ e. e.1 ≡ entry) }
     {
         self.entries.create(number.0, entry, CHANNEL_LIMIT)
@@ -104,7 +108,7 @@ impl<Record: Drop> Channels<Record> {
         self.entries.len()
     }
 
-    /// Returns the id of the channel at a place, from 0, of the open channels, which are in rising id.
+    /// Returns the id of the channel at this place, counted from 0, of the open channels in rising id.
     pub fn id_at(&self, place: usize) -> ChannelId
         requires { place < length self.now }
         ensures { option_map (λ e. e.0) (slice_get self.now place) ≡ Some result }
@@ -112,7 +116,7 @@ impl<Record: Drop> Channels<Record> {
         ChannelId(self.entries.number_at(place))
     }
 
-    /// Returns the record of the channel at a place of the open channels.
+    /// Returns the record of the channel at this place, counted from 0, of the open channels in rising id.
     pub fn at(&self, place: usize) -> &Record
         requires { place < length self.now }
         ensures { option_map (λ e. e.1) (slice_get self.now place) ≡ Some result.now }

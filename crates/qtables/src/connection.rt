@@ -2,7 +2,8 @@
 
 use qbase::ids::{ChannelId, ProcessNo};
 
-/// A connection: the process that attached it, all of whose threads may use it, and the channel that it leads to.
+/// A connection: the process that attached it, and the channel that it leads to. All threads of the process
+/// may use it.
 #[derive(Clone, Copy, Debug, PartialEq, Eq)]
 pub struct Connection {
     pub process: ProcessNo,

@@ -1,6 +1,8 @@
 //! The live connections.
 
-ghost use Rattle.std.specs.Prelude.{◌≡◌, ◌<◌, ◌≤◌, ◌==◌, nat_lt, ◌+◌, ◌&&◌, [], ◌∷◌, ◌++◌, length, count_by, option_copied, slice_get, if◌then◌else◌, Some, IfErr, IfOk, OnOk, OnErr, OnSome};
+ghost use Rattle.std.specs.Prelude.{◌≡◌, ◌<◌, ◌≤◌, ◌==◌, nat_lt, ◌+◌, ◌&&◌, [], ◌∷◌, ◌++◌, length, count_by};
+ghost use Rattle.std.specs.Prelude.{option_copied, slice_get, if◌then◌else◌, Some, IfErr, IfOk, OnOk, OnErr};
+ghost use Rattle.std.specs.Prelude.{OnSome};
 ghost use Rattle.std.specs.List.{AllByRecursion};
 ghost use Rattle.std.specs.Option.{option_copied_mut, option_map};
 ghost use Rattle.std.specs.Borrow.{sem};
@@ -12,7 +14,7 @@ use qbase::ids::{ChannelId, ConnectionId, ProcessNo};
 use std::alloc::{AllocError, Global};
 use std::marker::Model;
 
-/// The greatest number of connections that may be live at a time (own profile).
+/// The greatest number of connections that may be live at a time, by this kernel's own choice.
 pub const CONNECTION_LIMIT: usize = 1024;
 
 /// The live connections: a map from id to connection. Contracts see the entries in rising id.
@@ -54,8 +56,9 @@ impl Connections {
         })
     }
 
-    /// Adds a connection, whose id must be greater than those of all live connections. On an error it returns the
-    /// connection: `Again` if 1,024 connections are live, or else `NoMemory` if the allocator refuses.
+    /// Adds a connection, whose id must be greater than the ids of all live connections. On an error it
+    /// returns the connection. The error is `Again` if 1,024 connections are live, and otherwise `NoMemory`
+    /// if the allocator refuses.
     pub fn create(
         &mut self,
         number: ConnectionId,
@@ -65,7 +68,8 @@ impl Connections {
         ensures ok { OnOk result (self.new ≡ self.old ++ (number, entry) ∷ []) }
         ensures room { OnOk result (length self.old < 1024) }
         ensures err { OnErr result (self.new ≡ self.old) }
-        ensures error { IfErr result (λ e. e.0 ≡ (if nat_lt (length self.old) 1024 then Errno.NoMemory else Errno.Again)) }
+        ensures error { IfErr result
+            (λ e. e.0 ≡ (if nat_lt (length self.old) 1024 then Errno.NoMemory else Errno.Again)) }
         ensures returned { IfErr result (λ e. e.1 ≡ entry) }
     {
         self.entries.create(number.0, entry, CONNECTION_LIMIT)
@@ -104,7 +108,7 @@ impl Connections {
         self.entries.len()
     }
 
-    /// Returns the id of the connection at a place, from 0, of the live connections, which are in rising id.
+    /// Returns the id of the connection at this place, counted from 0, of the live connections in rising id.
     pub fn id_at(&self, place: usize) -> ConnectionId
         requires { place < length self.now }
         ensures { option_map (λ e. e.0) (slice_get self.now place) ≡ Some result }
@@ -112,7 +116,7 @@ impl Connections {
         ConnectionId(self.entries.number_at(place))
     }
 
-    /// Returns the connection at a place of the live connections.
+    /// Returns the connection at this place, counted from 0, of the live connections in rising id.
     pub fn at(&self, place: usize) -> &Connection
         requires { place < length self.now }
         ensures { option_map (λ e. e.1) (slice_get self.now place) ≡ Some result.now }

@@ -1,6 +1,8 @@
 //! A map from numbers to records, which the tables of channels and of connections use.
 
-ghost use Rattle.std.specs.Prelude.{◌≡◌, ◌<◌, ◌≤◌, nat_lt, ◌+◌, [], ◌∷◌, ◌++◌, length, slice_get, option_copied, if◌then◌else◌, IfErr, IfOk, IfSome, IfNone, OnOk, OnErr, OnSome, None, Some};
+ghost use Rattle.std.specs.Prelude.{◌≡◌, ◌<◌, ◌≤◌, nat_lt, ◌+◌, [], ◌∷◌, ◌++◌, length, slice_get};
+ghost use Rattle.std.specs.Prelude.{option_copied, if◌then◌else◌, IfErr, IfOk, IfSome, IfNone, OnOk, OnErr};
+ghost use Rattle.std.specs.Prelude.{OnSome, None, Some};
 ghost use Rattle.std.specs.List.{AllByRecursion};
 ghost use Rattle.std.specs.Option.{option_copied_mut, option_map};
 ghost use Rattle.std.specs.Borrow.{sem};
@@ -11,9 +13,9 @@ use slab::Slab;
 use std::alloc::{AllocError, Global};
 use std::marker::Model;
 
-/// A map from numbers to records. A record stays in one slot, beside its number, until it is removed. The index has the
-/// numbers in rising order, each with the key of its slot. A slot is found only by its number, so an old number never
-/// leads to a slot that is used again.
+/// A map from numbers to records. A record stays in one slot, together with its number, until it is removed.
+/// The index has the numbers in rising order, each with the key of its slot. A slot is found only by its
+/// number, so an old number never leads to a slot that is used again.
 #[derive(Drop)]
 pub struct Entries<Record> {
     slots: Slab<(u64, Record)>,
@@ -34,7 +36,7 @@ impl<Record> Model for Entries<Record> {
     ghost invariant = { λ a. IsIndexed a.slots a.index.items };
 }
 
-/// Returns the place of a number in an index; `None` if it isn't there.
+/// Returns the place of a number in an index; `None` if the index doesn't have the number.
 fn place_of(index: &[(u64, usize)], number: u64) -> Option<usize>
     requires { IsRising index.now }
     ensures there { IfSome result (λ place. option_map (λ e. e.0) (slice_get index.now place) ≡ Some number) }
@@ -43,7 +45,7 @@ fn place_of(index: &[(u64, usize)], number: u64) -> Option<usize>
     index.binary_search_by_key(&number, |entry| entry.0).ok()
 }
 
-/// Returns the key that a number has in an index; `None` if it isn't there.
+/// Returns the key of a number in an index; `None` if the index doesn't have the number.
 fn key_of(index: &[(u64, usize)], number: u64) -> Option<usize>
     requires { IsRising index.now }
     ensures { result ≡ entry_at index.now number }
@@ -75,8 +77,8 @@ impl<Record: Drop> Entries<Record> {
         })
     }
 
-    /// Adds an entry, whose number must be greater than all others. On an error it returns the record: `Again` if there
-    /// are `limit` entries, or else `NoMemory` if the allocator refuses.
+    /// Adds an entry, whose number must be greater than all others. On an error it returns the record. The
+    /// error is `Again` if there are `limit` entries, and otherwise `NoMemory` if the allocator refuses.
     pub fn create(
         &mut self,
         number: u64,
@@ -88,7 +90,8 @@ impl<Record: Drop> Entries<Record> {
         ensures ok { OnOk result (self.new ≡ self.old ++ (number, entry) ∷ []) }
         ensures room { OnOk result (length self.old < limit) }
         ensures err { OnErr result (self.new ≡ self.old) }
-        ensures error { IfErr result (λ e. e.0 ≡ (if nat_lt (length self.old) limit then Errno.NoMemory else Errno.Again)) }
+        ensures error { IfErr result
+            (λ e. e.0 ≡ (if nat_lt (length self.old) limit then Errno.NoMemory else Errno.Again)) }
         ensures returned { IfErr result (λ e. e.1 ≡ entry) }
     {
         if self.index.len() >= limit {
@@ -110,7 +113,8 @@ impl<Record: Drop> Entries<Record> {
         Some(&self.slots[key].1)
     }
 
-    /// Returns the record of a number, for writing; `None` if there is none. The number itself can't be written.
+    /// Returns the record of a number, for writing; `None` if there is none. The number itself can't be
+    /// written.
     pub fn get_mut(&mut self, number: u64) -> Option<&mut Record>
         ensures* writes_back { sem 𝓛 (lends_entry Record.row self.entry number result) }
         ensures value { option_copied_mut result ≡ entry_at self.old number }
@@ -120,8 +124,8 @@ impl<Record: Drop> Entries<Record> {
         Some(&mut self.slots[key].1)
     }
 
-    /// Removes the entry of a number and returns its record; `None` if there is none. The index closes the gap, and no
-    /// other record moves.
+    /// Removes the entry of a number and returns its record; `None` if there is none. The index closes the
+    /// gap, and no other record moves.
     pub fn remove(&mut self, number: u64) -> Option<Record>
         ensures value { result ≡ entry_at self.old number }
         ensures after { self.new ≡ without_entry self.old number }
@@ -142,7 +146,7 @@ impl<Record: Drop> Entries<Record> {
         self.index.len()
     }
 
-    /// Returns the number at a place of the entries, which are in rising number.
+    /// Returns the number at this place, counted from 0, of the entries in rising number.
     pub fn number_at(&self, place: usize) -> u64
         requires { place < length self.now }
         ensures { option_map (λ e. e.0) (slice_get self.now place) ≡ Some result }
@@ -150,7 +154,7 @@ impl<Record: Drop> Entries<Record> {
         self.index[place].0
     }
 
-    /// Returns the record at a place of the entries, which are in rising number.
+    /// Returns the record at this place, counted from 0, of the entries in rising number.
     pub fn at(&self, place: usize) -> &Record
         requires { place < length self.now }
         ensures { option_map (λ e. e.1) (slice_get self.now place) ≡ Some result.now }

@@ -5,6 +5,6 @@ pub mod channels;
 pub mod connection;
 pub mod connections;
 mod entries;
-pub mod laws;
 pub mod member;
 pub mod roster;
+pub mod table_laws;

@@ -1,6 +1,7 @@
 //! The roster: the threads that a kernel knows.
 
-ghost use Rattle.std.specs.Prelude.{◌≡◌, ◌<◌, ◌≤◌, ◌==◌, [], length, None, Some, IfOk, IfErr, OnOk, OnErr, MatchResult, is_some, option_map, slice_get, insert, true};
+ghost use Rattle.std.specs.Prelude.{◌≡◌, ◌<◌, ◌≤◌, ◌==◌, [], length, None, Some, IfOk, IfErr, OnOk, OnErr};
+ghost use Rattle.std.specs.Prelude.{MatchResult, is_some, option_map, slice_get, insert, true};
 ghost use Rattle.qtables.specs.declared.member.Member.{Member};
 
 use crate::member::Member;
@@ -11,12 +12,12 @@ use qbase::priority::Priority;
 use std::alloc::Global;
 use std::marker::Model;
 
-/// The greatest number of threads in a roster (own profile).
+/// The greatest number of threads in a roster, by this kernel's own choice.
 pub const THREAD_LIMIT: usize = 64;
 
 /// The threads, each with its process and the priority that it begins with. Contracts see the members in
 /// rising thread number.
-/// `first_message.rt` of `crates/balsaeuchre_uses` makes one.
+/// `first_message.rt` of `crates/balsaeuchre_examples` makes a roster.
 #[derive(Drop)]
 pub struct Roster {
     members: ArrayVec<Member, THREAD_LIMIT, Global>,
@@ -46,8 +47,9 @@ impl Roster {
         }
     }
 
-    /// Adds a thread; takes no memory. Error: `Inval` if the thread is in the roster already, or else `Again` if the
-    /// roster has 64 threads. `first_message.rt` of `crates/balsaeuchre_uses` adds two.
+    /// Adds a thread; takes no memory. The error is `Inval` if the thread is in the roster already, and
+    /// otherwise `Again` if the roster has 64 threads.
+    /// `first_message.rt` of `crates/balsaeuchre_examples` adds two.
     pub fn add(
         &mut self,
         thread: ThreadNo,
@@ -58,7 +60,8 @@ impl Roster {
             (λ _. join_refusal self.old thread ≡ None)
             (λ e. join_refusal self.old thread ≡ Some e) }
         ensures ok { OnOk result
-            (self.new ≡ with_member (record { thread = thread; process = process; priority = priority }) self.old) }
+            (self.new ≡ with_member (record { thread = thread; process = process; priority = priority })
+            self.old) }
         ensures err { OnErr result (self.new ≡ self.old) }
     {
         match self.search(thread) {
@@ -78,7 +81,8 @@ impl Roster {
         }
     }
 
-    /// Returns a thread's process and the priority that it begins with; `None` if the thread isn't in the roster.
+    /// Returns a thread's process and the priority that it begins with; `None` if the thread isn't in the
+    /// roster.
     pub fn get(&self, thread: ThreadNo) -> Option<(ProcessNo, Priority)>
         ensures { result ≡ option_map (λ m. (m.process, m.priority)) (member_at self.now thread) }
     {
@@ -115,7 +119,7 @@ impl Roster {
         self.members.is_empty()
     }
 
-    // Returns the place of a thread, or as an error the place where it would be inserted.
+    // Returns the place of a thread; the error is the place where it would be inserted.
     fn search(&self, thread: ThreadNo) -> Result<usize, usize>
         ensures there { IfOk result (λ i.
             (i < length self.now)

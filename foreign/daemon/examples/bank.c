@@ -1,4 +1,5 @@
-/* A server of two threads: one account, and a pulse for who watches it as the balance passes a thousand. */
+/* A server with two threads and one account. A client that watches it gets a pulse whenever the balance
+ * passes a multiple of 1,000. */
 #include <errno.h>
 #include <pthread.h>
 #include <stdio.h>
@@ -10,7 +11,7 @@
 
 static name_attach_t *attach;
 static int balance, watcher;
-static pthread_mutex_t mutex = PTHREAD_MUTEX_INITIALIZER; /* of both */
+static pthread_mutex_t mutex = PTHREAD_MUTEX_INITIALIZER; /* of the balance */
 
 static int book(int rcvid, int amount)
 {
@@ -34,7 +35,11 @@ static int watch(int rcvid, pid_t pid, int chid)
 
 static void *serve(void *arg)
 {
-    union { uint16_t type; struct _pulse pulse; bank_request_t request; } msg;
+    union {
+        uint16_t type;
+        struct _pulse pulse;
+        bank_request_t request;
+    } msg;
     struct _msg_info info;
 
     for (;;) {
@@ -44,12 +49,18 @@ static void *serve(void *arg)
         if (rcvid == 0)
             continue;
         switch (msg.type) {
-        case _IO_CONNECT: error = MsgReply(rcvid, EOK, NULL, 0); break;
-        case MSG_BOOK: error = book(rcvid, msg.request.amount); break;
-        case MSG_WATCH: error = watch(rcvid, info.pid, msg.request.chid); break;
+        case _IO_CONNECT:
+            error = MsgReply(rcvid, EOK, NULL, 0);
+            break;
+        case MSG_BOOK:
+            error = book(rcvid, msg.request.amount);
+            break;
+        case MSG_WATCH:
+            error = watch(rcvid, info.pid, msg.request.chid);
+            break;
         case MSG_CLOSE:
             MsgReply(rcvid, balance, NULL, 0);
-            name_detach(attach, 0); /* which ends the other thread's receive */
+            name_detach(attach, 0); /* this ends the other thread's receive */
             return arg;
         }
         if (error != EOK)

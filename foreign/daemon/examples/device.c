@@ -1,5 +1,6 @@
-/* A device driver: a resource manager's loop. It holds one line, which a client writes and another one reads; a read of
- * an empty device waits in the driver, until a line comes or its client is tired of waiting. Ends with a pulse. */
+/* A device driver: a resource manager's loop. The device holds one line, which one client writes and another
+ * reads. A read of an empty device waits in the driver until a line comes, or until its client is tired of
+ * waiting. A pulse ends the driver. */
 #include <errno.h>
 #include <stdio.h>
 #include <stdlib.h>
@@ -59,17 +60,29 @@ static void io_unblock(int rcvid)
 static int handle_pulse(const struct _pulse *pulse)
 {
     switch (pulse->code) {
-    case _PULSE_CODE_UNBLOCK: io_unblock(pulse->value.sival_int); break;
-    case _PULSE_CODE_DISCONNECT: ConnectDetach(pulse->scoid); break;
-    case PULSE_INTERRUPT: dev.interrupts += pulse->value.sival_int; break;
-    case PULSE_QUIT: return -1;
+    case _PULSE_CODE_UNBLOCK:
+        io_unblock(pulse->value.sival_int);
+        break;
+    case _PULSE_CODE_DISCONNECT:
+        ConnectDetach(pulse->scoid);
+        break;
+    case PULSE_INTERRUPT:
+        dev.interrupts += pulse->value.sival_int;
+        break;
+    case PULSE_QUIT:
+        return -1;
     }
     return 0;
 }
 
 int main(void)
 {
-    union { uint16_t type; struct _pulse pulse; io_hdr_t hdr; io_write_t write; } msg;
+    union {
+        uint16_t type;
+        struct _pulse pulse;
+        io_hdr_t hdr;
+        io_write_t write;
+    } msg;
     struct _msg_info info;
     name_attach_t *attach = name_attach(NULL, "device", 0);
 
@@ -83,9 +96,12 @@ int main(void)
             break;
         if (rcvid == 0)
             continue;
-        if (msg.type == _IO_CONNECT) error = MsgReply(rcvid, EOK, NULL, 0);
-        else if (msg.type == IO_READ) error = io_read(rcvid);
-        else if (msg.type == IO_WRITE) error = io_write(rcvid, &msg.write, &info);
+        if (msg.type == _IO_CONNECT)
+            error = MsgReply(rcvid, EOK, NULL, 0);
+        else if (msg.type == IO_READ)
+            error = io_read(rcvid);
+        else if (msg.type == IO_WRITE)
+            error = io_write(rcvid, &msg.write, &info);
         if (error != EOK)
             MsgError(rcvid, error);
     }

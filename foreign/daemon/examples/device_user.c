@@ -1,4 +1,4 @@
-/* The clients of device.c: this program and a child, which reads what it writes. */
+/* The clients of device.c: this program writes a line, and a child reads it. */
 #include <errno.h>
 #include <stdio.h>
 #include <stdlib.h>

@@ -1,4 +1,4 @@
-/* A client, which finds its server by name and sends one message. */
+/* A client that finds its server by name and sends one message. */
 #include <errno.h>
 #include <stdio.h>
 #include <stdlib.h>
@@ -11,7 +11,7 @@ int main(void)
     int coid;
 
     while ((coid = name_open("hello", 0)) == -1 && errno == ENOENT)
-        delay(10); /* it has not started yet */
+        delay(10); /* the server has not started yet */
     if (coid == -1) {
         perror("name_open");
         return EXIT_FAILURE;

@@ -1,4 +1,4 @@
-/* A server, which its client finds by name. Ends after one message. */
+/* A server that its client finds by name. It ends after one message. */
 #include <errno.h>
 #include <stdio.h>
 #include <stdlib.h>
@@ -8,7 +8,11 @@
 
 int main(void)
 {
-    union { uint16_t type; struct _pulse pulse; char text[64]; } msg;
+    union {
+        uint16_t type;
+        struct _pulse pulse;
+        char text[64];
+    } msg;
     struct _msg_info info;
     name_attach_t *attach = name_attach(NULL, "hello", 0);
     int served = 0;
@@ -23,9 +27,9 @@ int main(void)
             perror("MsgReceive");
             return EXIT_FAILURE;
         }
-        if (rcvid == 0) /* a pulse: somebody has gone */
+        if (rcvid == 0) /* a pulse: a client has gone */
             continue;
-        if (msg.type == _IO_CONNECT) { /* name_open wants to know whether we are there */
+        if (msg.type == _IO_CONNECT) { /* name_open asks whether the server is there */
             MsgReply(rcvid, EOK, NULL, 0);
             continue;
         }

@@ -1,4 +1,4 @@
-/* The clients of bank.c: three tellers, each a process, and an auditor, who is told by pulses of the bank. */
+/* The clients of bank.c: three tellers, each a process, and an auditor, who gets the bank's pulses. */
 #include <errno.h>
 #include <stdio.h>
 #include <stdlib.h>

@@ -1,6 +1,6 @@
-/* bench ROUNDS REPEATS [BYTES]: microseconds of a round trip of BYTES (4) between two processes, median of REPEATS:
- * over the daemon, by a Unix socket pair, and by a futex at which both sleep. With two processors each of the last two
- * has its processes on two. */
+/* bench ROUNDS REPEATS [BYTES]: prints the microseconds of a round trip of BYTES (4) between two processes,
+ * as the median of REPEATS. It measures the daemon, a Unix socket pair, and a futex at which both processes
+ * sleep. If there are two processors, each of the last two has its processes on different processors. */
 #define _GNU_SOURCE
 #include "tests.h"
 
@@ -17,7 +17,11 @@ static int rounds, repeats;
 static size_t length = 4;
 static char *sent, *got;
 static int ends[2];
-static struct { _Alignas(64) _Atomic uint32_t there; _Alignas(64) _Atomic uint32_t back; } *words;
+struct words {
+    _Alignas(64) _Atomic uint32_t there;
+    _Alignas(64) _Atomic uint32_t back;
+};
+static struct words *words;
 
 static void serve_messages(void) {
     name_attach_t *name = name_attach(NULL, "bench", 0);
@@ -124,7 +128,7 @@ int main(int count, char **arguments) {
     got = calloc(1, length + 64);
     words = mmap(NULL, sizeof *words, PROT_READ | PROT_WRITE, MAP_SHARED | MAP_ANONYMOUS, -1, 0);
     check(repeats > 0 && repeats <= MOST && words != MAP_FAILED && !socketpair(AF_UNIX, SOCK_SEQPACKET, 0, ends));
-    for (int turn = 0; turn < repeats; turn++) { /* in turns, as the machine has other work at other times */
+    for (int turn = 0; turn < repeats; turn++) { /* in turns, because the machine's other work changes */
         times[0][turn] = measure(serve_messages, send_messages);
         times[1][turn] = measure(serve_packets, send_packets);
         times[2][turn] = measure(serve_words, send_words);

@@ -1,7 +1,12 @@
-/* chaos SECONDS SEED: servers and clients as processes, which are killed, stopped and started again at random times.
- * Nobody gets what isn't for it: a reply has its client's own number, a message and a client's info its sender's pid, a
- * pulse says who sent it, a disconnect names one who has ended or detached, an unblock pulse a message that was received
- * from one who has ended or was interrupted, and a signal is for who asked for it. */
+/* chaos SECONDS SEED: servers and clients as processes, which are killed, stopped and started again at random
+ * times. Each message, reply, pulse and signal has to be for its receiver:
+ *
+ * - a reply has its client's number;
+ * - a message and a client's info have the sender's pid;
+ * - a pulse has its sender's pid;
+ * - a disconnect pulse names a client that has ended or detached;
+ * - an unblock pulse names a received message of a client that has ended or was interrupted;
+ * - a signal reaches the client that asked for it. */
 #define _GNU_SOURCE
 #include "tests.h"
 
@@ -14,15 +19,16 @@ enum { SERVERS = 4, WORKERS = 12, LIVES = 1 << 16, HELD = 4, RECEIVED = 4096 };
 /* A client's process, from its start to its end. */
 struct life {
     volatile pid_t pid;
-    volatile bool killed, interrupts; /* by timeouts and signals */
+    volatile bool killed, interrupts; /* interrupts: by timeouts and signals */
     volatile int detached[SERVERS], disconnected[SERVERS];
 };
 
-static struct {
+struct all {
     volatile int lives;
     volatile long count[WORKERS];
     struct life life[LIVES];
-} *all;
+};
+static struct all *all;
 
 struct message {
     uint16_t type;
@@ -40,9 +46,7 @@ static struct life *life_of(pid_t pid) {
     return NULL;
 }
 
-static bool is_gone(int error) {
-    return error == ESRCH || error == EBADF || error == ENOENT || error == EAGAIN;
-}
+static bool is_gone(int error) { return error == ESRCH || error == EBADF || error == ENOENT || error == EAGAIN; }
 
 /* ---- servers */
 
@@ -63,7 +67,7 @@ static void answer(struct received *message) {
     message->rcvid = 0;
 }
 
-/* Delivers the event of any message that was received. */
+/* Delivers the event of a random message that was received. */
 static void deliver_any(void) {
     const struct received *message = &received[(unsigned)rand() % (receipts < RECEIVED ? receipts + 1 : RECEIVED)];
     if (message->rcvid) check(MsgDeliverEvent(message->rcvid, &message->event) == 0 || is_gone(errno));
@@ -101,7 +105,7 @@ static void take_unblock(const struct _pulse *pulse) {
         }
         return;
     }
-    check(receipts > RECEIVED && pulse->value.sival_int > 0); /* else it would be known */
+    check(receipts > RECEIVED && pulse->value.sival_int > 0); /* otherwise the message would be known */
 }
 
 static void take_disconnect(const struct _pulse *pulse) {
@@ -123,7 +127,8 @@ static void take_pulse(const struct _pulse *pulse) {
         take_disconnect(pulse);
     } else {
         check(pulse->code == 5);
-        check(ConnectClientInfo(pulse->scoid, &client, 0) == 0 ? client.pid == pulse->value.sival_int : errno == EINVAL);
+        check(ConnectClientInfo(pulse->scoid, &client, 0) == 0 ? client.pid == pulse->value.sival_int
+                                                               : errno == EINVAL);
     }
 }
 
@@ -136,7 +141,10 @@ static void serve(void) {
         check(name || errno == EEXIST || errno == EBUSY || is_gone(errno));
         if (!name) usleep(500);
         for (int left = name ? 200 + rand() % 2000 : 0; left; left--) {
-            union { struct _pulse pulse; struct message message; } room;
+            union {
+                struct _pulse pulse;
+                struct message message;
+            } room;
             struct _msg_info info;
             set_timeout(1 + rand() % 20);
             rcvid_t rcvid = MsgReceive(name->chid, &room, sizeof room, &info);
@@ -157,14 +165,15 @@ static void serve(void) {
 static struct life *own;
 
 static void take_signal(int signo, siginfo_t *info, void *context) {
-    (void)signo, (void)context;
+    (void)signo;
+    (void)context;
     if (info->si_value.sival_int == own->pid) return;
     static const char text[] = "a signal of another program\n";
     if (write(STDERR_FILENO, text, sizeof text - 1) < 0) _exit(2);
     _exit(1);
 }
 
-/* Takes the pulses that came to its own channel, which are all of its own events. */
+/* Takes the pulses on its own channel, which all come from its own events. */
 static void take_own_pulses(int chid) {
     for (;;) {
         struct _pulse pulse;
@@ -175,7 +184,7 @@ static void take_own_pulses(int chid) {
     check(errno == ETIMEDOUT || errno == EINTR);
 }
 
-/* Returns whether the connection still serves. */
+/* Sends a message to a server, and perhaps a pulse before it. Returns whether the connection still works. */
 static bool ask(int coid, int self_coid) {
     struct message m = {.type = _IO_MAX + 1, .pid = own->pid};
     pid_t back = 0;
@@ -208,7 +217,8 @@ static void ask_on(void) {
         char text[8];
         int server = rand() % SERVERS;
         snprintf(text, sizeof text, "c%d", server);
-        own->detached[server]++; /* it may be seen at once; and a name_open that fails detaches, too */
+        own->detached[server]++; /* a server may see the detach at once; a name_open that fails also
+                                    detaches */
         int coid = name_open(text, 0);
         all->count[worker]++;
         check(coid != -1 || is_gone(errno) || errno == EINTR);
@@ -230,7 +240,7 @@ static pid_t begin(int at) {
         while (at >= SERVERS && all->life[life].pid != child) usleep(50);
         return child;
     }
-    prctl(PR_SET_PDEATHSIG, SIGKILL); /* a test that fails leaves nobody */
+    prctl(PR_SET_PDEATHSIG, SIGKILL); /* a test that fails leaves no process */
     worker = at;
     srand((unsigned)getpid());
     if (at < SERVERS) serve();
@@ -250,7 +260,7 @@ static void end(int at, pid_t child) {
     check(WIFSIGNALED(status) && WTERMSIG(status) == SIGKILL);
 }
 
-/* After some time each of them has done something. */
+/* Waits until each worker has done something. */
 static void expect_progress(const pid_t *children) {
     long before[WORKERS];
     time_t start = time(NULL);

@@ -1,6 +1,6 @@
-/* connects [NAME..]: which daemon a program asks, and what it says of one that it can't; how long calls wait, and what
- * a wait costs. For a daemon of 12 processes of 4 threads. again and not_again start daemons of their own, by
- * BALSAEUCHRE_DAEMON. */
+/* connects [NAME..]: tests which daemon a program uses, the messages about a daemon that it can't use, how
+ * long calls wait, and what a wait costs. It needs a daemon of 12 processes with 4 threads each. again and
+ * not_again start daemons of their own, from the program that BALSAEUCHRE_DAEMON names. */
 #define _GNU_SOURCE
 #include "tests.h"
 
@@ -21,7 +21,7 @@ static double seconds(clockid_t clock) {
     return (double)t.tv_sec + (double)t.tv_nsec / 1e9;
 }
 
-/* Turns standard error into a pipe, from which said() reads. */
+/* Turns standard error into a pipe, from whose returned end said() reads. */
 static int catch_errors(void) {
     int ends[2];
     check(pipe2(ends, O_CLOEXEC) == 0 && fcntl(ends[0], F_SETFL, O_NONBLOCK) == 0);
@@ -38,7 +38,7 @@ static const char *said(int errors) {
 
 /* ---- time */
 
-/* A timeout over a daemon with nothing else to do ends about when a sleep of the host ends. */
+/* If the daemon has nothing else to do, a timeout ends at about the same time as a sleep of the host. */
 static void timeouts(void) {
     static const int all[] = {50, 200};
     int chid = ChannelCreate(0);
@@ -72,7 +72,7 @@ static pid_t pid_of_daemon(void) {
     return daemon.pid;
 }
 
-/* How often a thread has given up its processor by itself. */
+/* The number of times that a thread has given up its processor by itself. */
 static long switches(pid_t tid) {
     char path[64], line[200];
     long count = -1;
@@ -94,7 +94,8 @@ static void *wait_on(void *chid) {
     return NULL;
 }
 
-/* A thread that waits for 5 seconds sleeps twice at most, and neither it nor the daemon needs a processor. */
+/* A thread that waits for 5 seconds sleeps at most twice. Neither the thread nor the daemon
+ * uses a processor meanwhile. */
 static void idle(void) {
     pthread_t thread;
     clockid_t clock;
@@ -115,7 +116,7 @@ static void idle(void) {
     check(ChannelDestroy(chid) == 0 && pthread_join(thread, NULL) == 0);
 }
 
-/* ---- long asks of one program */
+/* ---- long requests of one program */
 
 enum { LONG = 1 << 20, ROUNDS = 400, PAIRS = 5 };
 
@@ -136,7 +137,7 @@ static void send_long(void *name) {
     for (;;) check(MsgSend(coid, sent, LONG, got, LONG) == 0);
 }
 
-/* The microseconds of a round trip of four bytes. */
+/* Returns the microseconds of a round trip of four bytes. */
 static double round_trip(int coid) {
     char bytes[4] = "abc";
     double start = seconds(CLOCK_MONOTONIC);
@@ -149,8 +150,8 @@ static int compare(const void *a, const void *b) {
     return first < second ? -1 : first > second;
 }
 
-/* Another program's messages of 1 MiB make a round trip little longer: the median of the differences is compared with the
- * time that one of them takes while nobody else asks. */
+/* Another program's messages of 1 MiB make a round trip only a little longer. The median of the differences
+ * is compared with the time of one such message while no other program makes requests. */
 static void greedy(void) {
     static char sent[LONG], got[LONG];
     pid_t server = spawn(echo, "short"), long_server = spawn(echo, "long");
@@ -169,8 +170,9 @@ static void greedy(void) {
     }
     qsort(more, PAIRS, sizeof *more, compare);
     qsort(usual, PAIRS, sizeof *usual, compare);
-    /* Programs whose round trips take longer than this don't count as others that ask: nothing can be told then. */
-    if (usual[PAIRS / 2] > 2000) fprintf(stderr, "greedy: the machine is too busy to tell\n");
+    /* If round trips take longer than this, their program doesn't count as another that makes requests.
+     * Then nothing can be measured. */
+    if (usual[PAIRS / 2] > 2000) fprintf(stderr, "greedy: the machine is too busy to measure\n");
     else check(more[PAIRS / 2] < one / 40 + usual[PAIRS / 2]);
     kill_child(server);
     kill_child(long_server);
@@ -201,8 +203,8 @@ static double median_send(int coid, size_t bytes) {
     return trips[TURNS / 2];
 }
 
-/* A client and its server don't wait for each other's turn: after messages of 1 MiB the client's short ones take as long
- * as before. If the server counted as another program that asks, they would wait for milliseconds. */
+/* A client and its server don't wait for each other's turn: after messages of 1 MiB the client's short ones take as
+ * long as before. If the server counted as another program that asks, they would wait for milliseconds. */
 static void partners(void) {
     pid_t server = spawn(acknowledge, "short");
     int coid = open_name("short");
@@ -216,9 +218,12 @@ static void partners(void) {
 
 /* ---- whose daemon it is */
 
-static struct shared { volatile int came; } *shared;
+struct shared {
+    volatile int came;
+};
+static struct shared *shared;
 
-/* Listens as another user, and counts the programs that ask anything. It answers none. */
+/* Listens as another user, and counts the programs that send anything. Answers none of them. */
 static void listen_as_nobody(void *path) {
     struct sockaddr_un address = {.sun_family = AF_UNIX};
     char byte;
@@ -240,12 +245,15 @@ static void ask_nobody(void *user) {
     if (user) check(setenv("BALSAEUCHRE_SYSTEM_USER", user, 1) == 0);
     fails(ChannelCreate(0), user ? ESHUTDOWN : EPERM);
     fails(ChannelCreate(0), user ? ESHUTDOWN : EPERM);
-    snprintf(wanted, sizeof wanted, "balsaeuchre: the balsaeuchred at %s is of user %d: expected root's (0) or "
-             "this user's (%d). BALSAEUCHRE_SYSTEM_USER=%d takes it\n", getenv("BALSAEUCHRE_SYSTEM"), NOBODY, geteuid(), NOBODY);
+    snprintf(wanted, sizeof wanted,
+             "balsaeuchre: the balsaeuchred at %s is of user %d: expected root's (0) or "
+             "this user's (%d). BALSAEUCHRE_SYSTEM_USER=%d takes it\n",
+             getenv("BALSAEUCHRE_SYSTEM"), NOBODY, geteuid(), NOBODY);
     check(strcmp(said(errors), user ? "" : wanted) == 0);
 }
 
-/* A daemon of another user is asked nothing, unless the environment names that user. Only root can try. */
+/* A program sends nothing to another user's daemon, unless the environment names that
+ * user. Only root can try this. */
 static void owners(void) {
     char folder[] = "/tmp/balsaeuchre.XXXXXX", path[100];
     struct stat state;
@@ -284,10 +292,11 @@ static void attach_in_thread(int chid) {
 
 static void find_named(void *unused) {
     (void)unused;
-    check(name_open("nobody", 0) == -1 && errno == ENOENT); /* the daemon says so */
+    check(name_open("nobody", 0) == -1 && errno == ENOENT); /* the daemon's answer */
 }
 
-/* The daemon is the one that the first call found, in each folder and after a change of the environment. */
+/* A program uses the daemon that its first call found, in each folder and after a change of the
+ * environment. */
 static void places(void) {
     char path[200];
     strcpy(path, getenv("BALSAEUCHRE_SYSTEM"));
@@ -317,7 +326,8 @@ static void *serve_one(void *chid) {
     return NULL;
 }
 
-/* What is longer than a message may be is refused, and nothing is cut. A receive buffer may be longer. */
+/* A message, a reply, a Write or a reply buffer of more than 1 MiB is refused, and nothing is truncated. A
+ * receive buffer may be longer. */
 static void longest(void) {
     static char back[MOST + 1];
     pthread_t thread;
@@ -344,7 +354,8 @@ static void find_no_place(void *unused) {
     check(strchr(text, '\n') == strrchr(text, '\n'));
 }
 
-/* A program without a place says so once, with the option that gives more. For a daemon of 12 processes. */
+/* A program without a place reports this once, with the option that gives more. For a daemon of 12
+ * processes. */
 static void no_place(void) {
     pid_t all[12];
     int line[2];
@@ -363,7 +374,7 @@ static void *wait_as_last(void *chid) {
     return (void *)(intptr_t)(MsgReceive((int)(intptr_t)chid, room, sizeof room, NULL) == -1 ? errno : 0);
 }
 
-/* The same of a thread. For a daemon of at most 60 threads for each process. */
+/* A thread without a place, in the same way. For a daemon of at most 60 threads for each process. */
 static void no_thread(void) {
     pthread_t all[61];
     int errors = catch_errors(), chid = ChannelCreate(0), count = 0;
@@ -392,7 +403,8 @@ static void *hold_socket(void *step) {
     return NULL;
 }
 
-/* A thread's socket has the number of a closed standard file. A forked child doesn't keep it. */
+/* A thread's socket has the number of a standard file that was closed. A forked
+ * child doesn't keep the socket. */
 static void closed_files(void) {
     static volatile int step;
     pthread_t thread;
@@ -421,7 +433,7 @@ static void send_and_detach(void *line) {
     fails(MsgReceivePulse(chid, &pulse, sizeof pulse, NULL), ETIMEDOUT);
 }
 
-/* The event of a program that is no client any more isn't delivered. */
+/* A program's event isn't delivered after the program has detached, because it is no longer a client. */
 static void strangers(void) {
     struct sigevent event;
     int line[2];
@@ -436,7 +448,7 @@ static void strangers(void) {
     check(name_detach(name, 0) == 0);
 }
 
-/* Channels that are told of ends leave nothing behind. */
+/* Channels that ask for pulses about ends free everything when they are destroyed. */
 static void told_channels(void) {
     for (int turn = 0; turn < 1100; turn++) {
         int chid = ChannelCreate(_NTO_CHF_COID_DISCONNECT | _NTO_CHF_THREAD_DEATH);
@@ -467,7 +479,7 @@ static pid_t start_daemon(void) {
 }
 
 static volatile bool is_back;
-static volatile int waited; /* the error of a call that was open as the daemon ended */
+static volatile int waited; /* the error of the call that was open when the daemon ended */
 static volatile double ended_at;
 
 static void *wait_through_end(void *chid) {
@@ -481,7 +493,7 @@ static void *wait_through_end(void *chid) {
     return NULL;
 }
 
-/* Kills the daemon, which a thread that waits for a long time learns within a second, and starts it again. */
+/* Kills the daemon, and starts it again. A thread that has waited for some time learns it within a second. */
 static pid_t end_and_start(pid_t old, int chid) {
     pthread_t thread;
     check(pthread_create(&thread, NULL, wait_through_end, (void *)(intptr_t)chid) == 0);
@@ -547,14 +559,20 @@ static void start_again(bool reconnects) {
     check(unlink(path) == 0 && rmdir(folder) == 0);
 }
 
-/* The daemon is killed and started again: a program that asks for that uses the next one, and another doesn't. */
+/* The daemon is killed and started again. A program with BALSAEUCHRE_RECONNECT=1 uses the next daemon, and a
+ * program without it doesn't. */
 static void again(void) { start_again(true); }
 static void not_again(void) { start_again(false); }
 
-#define TEST(name) {#name, name}
-static const struct { const char *name; void (*run)(void); } tests[] = {
-    TEST(timeouts), TEST(idle), TEST(greedy), TEST(partners), TEST(owners), TEST(places), TEST(longest), TEST(no_place),
-    TEST(no_thread), TEST(closed_files), TEST(strangers), TEST(told_channels), TEST(again), TEST(not_again),
+#define TEST(name) \
+    { #name, name }
+static const struct {
+    const char *name;
+    void (*run)(void);
+} tests[] = {
+    TEST(timeouts),  TEST(idle),          TEST(greedy),   TEST(partners),  TEST(owners),
+    TEST(places),    TEST(longest),       TEST(no_place), TEST(no_thread), TEST(closed_files),
+    TEST(strangers), TEST(told_channels), TEST(again),    TEST(not_again),
 };
 
 static void run(void *at) { tests[(intptr_t)at].run(); }

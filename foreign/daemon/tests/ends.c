@@ -1,4 +1,4 @@
-/* ends [NAME..]: clients and servers as processes of their own, and what is left as one of them ends. */
+/* ends [NAME..]: clients and servers as processes, and the state that is left when one of them ends. */
 #define _GNU_SOURCE
 #include "tests.h"
 
@@ -7,17 +7,18 @@
 #include <sys/socket.h>
 #include <sys/un.h>
 
-static struct shared {
+struct shared {
     volatile int errors[8];
     volatile int seen, sent, received;
     volatile int scoid;
-} *shared;
+};
+static struct shared *shared;
 
 static void until_seen(int count) {
     while (shared->seen < count) usleep(200);
 }
 
-/* Sends "hello" over a connection to "server" twice; the errors are kept. */
+/* Sends "hello" twice over a connection to "server", and keeps the errors. */
 static void send_twice(void *unused) {
     char reply[16] = "";
     int coid = open_name("server");
@@ -41,8 +42,8 @@ static void expect_nothing(int chid) {
     fails(MsgReceive(chid, room, sizeof room, NULL), ETIMEDOUT);
 }
 
-/* A client dies while it is REPLY-blocked: its server gets the unblock pulse, and the client is there until the answer.
- * Then comes the disconnect pulse. */
+/* A client dies while it is REPLY-blocked. Its server gets the unblock pulse, and knows the client until the
+ * reply. Then the server gets the disconnect pulse. */
 static void client_dies(void) {
     char room[64];
     struct _msg_info info;
@@ -67,7 +68,7 @@ static void client_dies(void) {
     check(name_detach(name, 0) == 0);
 }
 
-/* On a channel that isn't told, its message is gone at once. */
+/* On a channel without the flag UNBLOCK, the message of a client that dies is gone at once. */
 static void held_without_flag(void) {
     char room[64];
     struct _msg_info info;
@@ -96,7 +97,8 @@ static void time_out(void *unused) {
     MsgSend(coid, "hello", 6, NULL, 0);
 }
 
-/* A client that has timed out dies before its server receives the unblock pulse: that names the message still. */
+/* A client whose call has timed out dies before its server receives the unblock pulse. The
+ * pulse still names the message. */
 static void late_client_dies(void) {
     char room[64];
     struct _msg_info info;
@@ -114,7 +116,8 @@ static void late_client_dies(void) {
     check(name_detach(name, 0) == 0);
 }
 
-/* A message that is answered between the death of its client and the receipt of the pulse, which names it still. */
+/* The server replies between the death of its client and the receipt of the unblock pulse. The
+ * pulse still names the message. */
 static void answered_late(void) {
     char room[64];
     struct _msg_info info;
@@ -139,19 +142,19 @@ static void join_and_end(void *unused) {
     _exit(ChannelCreate(0) > 0 ? 0 : errno);
 }
 
-/* Servers that never answer: dead clients keep their places, but only while there are others. The one that has been
- * dead the longest goes first; its server's pulses are as ever. */
+/* Servers that never reply: dead clients keep their places, but only until others need them. The client that
+ * died first loses its place first. Its server's pulses are as usual. */
 static void never_answered(void) {
     enum { MOST = 40 };
     char room[64];
     struct _client_info client;
     int scoids[MOST], count = 0, rcvids[MOST];
     name_attach_t *name = name_attach(NULL, "server", 0);
-    for (; count < MOST; count++) { /* until one more than fit has come */
+    for (; count < MOST; count++) { /* until one client more has come than there are places */
         struct _msg_info info;
         pid_t child = spawn(send_twice, NULL);
         rcvids[count] = receive_answering_opens(name->chid, room, sizeof room, &info);
-        while (rcvids[count] == 0) { /* pulses of those before */
+        while (rcvids[count] == 0) { /* pulses of earlier clients */
             rcvids[count] = receive_answering_opens(name->chid, room, sizeof room, &info);
         }
         check(rcvids[count] > 0 && info.pid == child);
@@ -200,7 +203,7 @@ static void hold_all(void *unused) {
     }
 }
 
-/* A server dies: ESRCH for who waits, EBADF afterwards, and its name is free. */
+/* A server dies. Calls that wait fail with ESRCH, later calls with EBADF, and the server's name is free. */
 static void server_dies(void) {
     pid_t server = spawn(hold_all, NULL), client[3];
     for (int at = 0; at < 3; at++) client[at] = spawn(send_twice, NULL);
@@ -224,7 +227,7 @@ static void *wait_on(void *chid) {
     return NULL;
 }
 
-/* A connection's server dies: a pulse tells so where that was asked for. */
+/* A connection's server dies. A channel that asks for it gets a pulse. */
 static void connection_dies(void) {
     struct _pulse pulse;
     int chid = ChannelCreate(_NTO_CHF_COID_DISCONNECT);
@@ -247,7 +250,8 @@ static void fill(void *unused) {
     pause();
 }
 
-/* A channel full of pulses keeps no place of others: each client that dies is gone at once, and its disconnect has room. */
+/* A channel full of pulses keeps no program's place. Each client that dies is gone at once, and there is room
+ * for its disconnect pulse. */
 static void full_channel(void) {
     struct _pulse pulse;
     struct _client_info client;
@@ -261,7 +265,7 @@ static void full_channel(void) {
     check(shared->sent > 900 && shared->sent < 1024);
     kill_child(child);
     while (ConnectClientInfo(info.scoid, &client, 0) == 0) usleep(1000);
-    for (int turn = 0; turn < 100; turn++) { /* all others go on */
+    for (int turn = 0; turn < 100; turn++) { /* all others continue */
         int chid = ChannelCreate(0), coid = ConnectAttach(0, 0, chid, _NTO_SIDE_CHANNEL, 0);
         check(chid > 0 && MsgSendPulse(coid, 10, 1, 1) == 0 && MsgReceivePulse(chid, &pulse, sizeof pulse, NULL) == 0);
         check(ConnectDetach(coid) == 0 && ChannelDestroy(chid) == 0);
@@ -285,7 +289,8 @@ static void attach_often(void *chid) {
     check(errno == EAGAIN);
 }
 
-/* So many disconnects wait that the next one would have no room: who would owe it can't connect. */
+/* So many disconnect pulses wait that there is no room for another. A process that
+ * would owe one can't connect. */
 static void full_of_disconnects(void) {
     struct _pulse pulse;
     int chid = ChannelCreate(_NTO_CHF_DISCONNECT);
@@ -305,7 +310,7 @@ static void *send_and_stay(void *coid) {
     return NULL;
 }
 
-/* A thread that is cancelled while its message is held: its server is asked to unblock it. */
+/* A thread is cancelled while its message is held. Its server is asked by a pulse to unblock it. */
 static void thread_ends(void) {
     char room[64];
     struct _msg_info info;
@@ -333,13 +338,13 @@ static void exec_self(void *unused) {
     execl("/bin/sleep", "sleep", "60", (char *)NULL);
 }
 
-/* A process that executes another program has ended for the kernel; a forked child is another process. */
+/* A process that executes another program has ended for the kernel. A forked child is another process. */
 static void fork_and_exec(void) {
     char room[64];
     pid_t child = spawn(exec_self, NULL);
     until_seen(1);
     name_attach_t *name = NULL;
-    while (!name) { /* until the daemon knows of its end */
+    while (!name) { /* until the daemon knows that it has ended */
         name = name_attach(NULL, "server", 0);
         if (!name) usleep(1000);
     }
@@ -361,14 +366,14 @@ static void fork_and_exec(void) {
 
 static void ignore(int signo) { (void)signo; }
 
-/* A signal handler ends a call that waits, and none that doesn't. */
+/* A signal handler ends a call that waits, and no other call. */
 static void interrupted(void) {
     struct sigaction action;
     memset(&action, 0, sizeof action);
     action.sa_handler = ignore;
     int chid = ChannelCreate(0), coid = ConnectAttach(0, 0, chid, _NTO_SIDE_CHANNEL, 0);
     check(sigaction(SIGALRM, &action, NULL) == 0);
-    ualarm(2000, 2000); /* again and again, as a signal may come before the call */
+    ualarm(2000, 2000); /* again and again, because a signal may come before the call */
     for (int turn = 0; turn < 20; turn++) {
         fails(MsgReceive(chid, NULL, 0, NULL), EINTR);
         fails(MsgSend(coid, NULL, 0, NULL, 0), EINTR);
@@ -383,7 +388,7 @@ static void *wait_at_23(void *chid) {
     return wait_on(chid);
 }
 
-/* What pidin prints has the priority of a thread that waits, too. */
+/* pidin prints the priority of each thread, also of a thread that waits. */
 static void shown(void) {
     pthread_t thread;
     char text[16384], wanted[40];
@@ -429,8 +434,8 @@ static void answer_on(void *unused) {
     check(errno == ESHUTDOWN);
 }
 
-/* The daemon is killed at any time: a server, a client and one who only waits get ESHUTDOWN from all calls then. It is
- * not among the tests that run by default. */
+/* The daemon is killed at a random time. From then on all calls of a server, of a client and of a thread that
+ * only waits fail with ESHUTDOWN. This test doesn't run by default. */
 static void daemon_dies(void) {
     pthread_t thread, waiter;
     char back[16];
@@ -445,11 +450,15 @@ static void daemon_dies(void) {
     expect_end(server);
 }
 
-#define TEST(name) {#name, name}
-static const struct { const char *name; void (*run)(void); } tests[] = {
+#define TEST(name) \
+    { #name, name }
+static const struct {
+    const char *name;
+    void (*run)(void);
+} tests[] = {
     TEST(client_dies), TEST(held_without_flag), TEST(late_client_dies), TEST(answered_late), TEST(never_answered),
-    TEST(sender_dies), TEST(server_dies), TEST(connection_dies), TEST(full_channel), TEST(full_of_disconnects),
-    TEST(thread_ends), TEST(fork_and_exec), TEST(interrupted), TEST(shown), TEST(daemon_dies),
+    TEST(sender_dies), TEST(server_dies),       TEST(connection_dies),  TEST(full_channel),  TEST(full_of_disconnects),
+    TEST(thread_ends), TEST(fork_and_exec),     TEST(interrupted),      TEST(shown),         TEST(daemon_dies),
 };
 
 static void run(void *at) { tests[(intptr_t)at].run(); }

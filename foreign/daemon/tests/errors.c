@@ -1,5 +1,5 @@
-/* errors: each error of the library has one of the host's, also an error that this layer doesn't know. Built with
- * AddressSanitizer and UBSan. */
+/* errors: each error of the library has an error of the host, even an error that this layer doesn't know.
+ * Built with AddressSanitizer and UBSan. */
 #define _GNU_SOURCE
 #include "layer.h"
 

@@ -1,13 +1,13 @@
-/* A libFuzzer harness over the readers of packets and boxes: the input is asks for the sockets of one program, in one
- * kernel that stays. Built over daemon.c, whose main has another name then. */
+/* A libFuzzer harness for the functions that read packets and boxes. The input is requests for the sockets of
+ * one program, in one kernel that stays. It includes daemon.c, whose main then has another name. */
 #define main balsaeuchred_main
 #include "../daemon.c"
 #undef main
 
 enum { SOCKETS = 4 };
 
-static int far[SOCKETS];        /* the clients' ends */
-static int results[2 * SOCKETS]; /* of the last answers, which later packets may name */
+static int far[SOCKETS];         /* the clients' ends */
+static int results[2 * SOCKETS]; /* of the last answers; later packets may name them */
 
 static struct client *open_socket(int at) {
     static uint64_t came;
@@ -26,7 +26,7 @@ static struct client *open_socket(int at) {
     return c;
 }
 
-/* Eight bytes of the input as an ask with the most usual fields. */
+/* Makes a request with the most usual fields from eight bytes of the input. */
 static struct wire_ask ask_from(const uint8_t *data) {
     struct wire_ask ask = {.op = data[1] % 32 ? OP_CALL : (uint32_t)data[1] / 16, .call = data[2] & 3, .pid = getpid()};
     ask.number = data[3] < 240 ? results[data[3] % (2 * SOCKETS)] : data[3];
@@ -55,7 +55,7 @@ static void read_answers(struct client *all[SOCKETS]) {
     }
 }
 
-/* Puts one ask of the input into a packet or a box. Returns how much of the input it is. */
+/* Puts one request of the input into a packet or a box. Returns how many bytes of the input it took. */
 static size_t take_one(struct client *c, const uint8_t *data, size_t size) {
     static uint8_t packet[sizeof(struct wire_ask) + WIRE_NAME + 1];
     bool is_raw = data[0] & 64;
@@ -77,7 +77,8 @@ static size_t take_one(struct client *c, const uint8_t *data, size_t size) {
     return from;
 }
 
-/* Each packet: a byte that says whose it is, seven of an ask, and what is behind that. */
+/* The input is a list of packets. Each has one byte for the socket, seven bytes for the request's
+ * fields, and the request's bytes. */
 int LLVMFuzzerTestOneInput(const uint8_t *data, size_t size) {
     struct client *all[SOCKETS];
     static bool opened;
@@ -98,7 +99,7 @@ int LLVMFuzzerTestOneInput(const uint8_t *data, size_t size) {
     if (all[0]->fd != -1) hang_up(all[0]);
     for (int at = 0; at < SOCKETS; at++) close(far[at]);
     leave_seats();
-    if (ending || gone) abort(); /* nobody holds pulses back, so all is gone */
+    if (ending || gone) abort(); /* no server leaves pulses unreceived, so everything is gone */
     for (int at = 0; at < CONNECTION_PLACES; at++) {
         if (k->connections[at].id) abort();
     }

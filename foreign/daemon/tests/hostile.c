@@ -1,6 +1,7 @@
-/* hostile SECONDS SEED: programs that speak as wire.h says, but as no library does, beside honest ones, which go on. They
- * join, create channels, send, receive, answer, deliver events, unblock and cancel, with numbers of their own, of others
- * or of nobody, and change their boxes while the daemon reads them; and they are killed in any state. */
+/* hostile SECONDS SEED: hostile programs use the protocol of wire.h in ways in which no library does. Honest
+ * programs run at the same time, and have to continue. The hostile programs join, create channels, send,
+ * receive, reply, deliver events, unblock and cancel. They use numbers of their own, of others or of nobody,
+ * and change their boxes while the daemon reads them. They are killed in any state. */
 #define _GNU_SOURCE
 #include "tests.h"
 
@@ -15,11 +16,12 @@
 enum { HOSTILE = 3, HONEST = 2, THREADS = 6, NUMBERS = 64, LONGEST = 3000, ROOM = 100000, SPINS = 200 };
 enum kind { CHIDS, COIDS, RCVIDS, SCOIDS, KINDS };
 
-static struct {
+struct shared {
     volatile long count[HONEST], asks, results;
     volatile int numbers[KINDS][NUMBERS]; /* of all hostile programs */
-    volatile pid_t pids[NUMBERS];         /* of programs */
-} *shared;
+    volatile pid_t pids[NUMBERS];         /* the pids of programs */
+};
+static struct shared *shared;
 
 static int below(int most) { return rand() % most; }
 
@@ -44,7 +46,8 @@ static void serve_honestly(void *unused) {
         check(info.msglen <= info.srcmsglen && info.pid > 0 && info.scoid > 0);
         bool is_open = type == _IO_CONNECT && info.msglen >= 2;
         if (!is_open) invert(room, (size_t)info.msglen);
-        check(MsgReply(rcvid, is_open ? EOK : info.msglen, room, is_open ? 0 : (size_t)info.msglen) == 0 || errno == ESRCH);
+        check(MsgReply(rcvid, is_open ? EOK : info.msglen, room, is_open ? 0 : (size_t)info.msglen) == 0 ||
+              errno == ESRCH);
     }
 }
 
@@ -57,7 +60,7 @@ static void ask_honestly(void *at) {
     for (;;) {
         size_t length = 2 + (size_t)below(LONGEST - 2);
         for (size_t byte = 0; byte < length; byte++) sent[byte] = (char)(rand() | 1);
-        memset(sent, 0x7f, 2); /* no _IO_CONNECT */
+        memset(sent, 0x7f, 2); /* a type other than _IO_CONNECT */
         check(MsgSend(coid, sent, length, back, sizeof back) == (long)length);
         invert(back, length);
         check(memcmp(sent, back, length) == 0);
@@ -68,7 +71,12 @@ static void ask_honestly(void *at) {
 /* ---- hostile programs */
 
 static int program = -1;
-static struct { int fd, bell; uint32_t call; uint8_t kind; struct wire_box *box; } threads[THREADS];
+static struct {
+    int fd, bell;
+    uint32_t call;
+    uint8_t kind;
+    struct wire_box *box;
+} threads[THREADS];
 
 static int any(enum kind kind) { return shared->numbers[kind][below(NUMBERS)]; }
 
@@ -76,14 +84,20 @@ static void note(enum kind kind, int64_t number) {
     if (number > 0 && number <= INT32_MAX) shared->numbers[kind][below(NUMBERS)] = (int)number;
 }
 
-/* A number of this kind, of any program; or near to one, or of another kind, or anything. */
+/* Returns a number of this kind of any program. Sometimes it is near to such a number,
+ * of another kind, or random. */
 static int number_of_kind(enum kind kind) {
     switch (below(20)) {
-    case 0: return any(kind) + below(3) - 1;
-    case 1: return any((enum kind)below(KINDS));
-    case 2: return rand();
-    case 3: return any(kind) ^ 1 << below(31);
-    default: return any(kind);
+    case 0:
+        return any(kind) + below(3) - 1;
+    case 1:
+        return any((enum kind)below(KINDS));
+    case 2:
+        return rand();
+    case 3:
+        return any(kind) ^ 1 << below(31);
+    default:
+        return any(kind);
     }
 }
 
@@ -98,10 +112,14 @@ static int connect_to(void) {
     }
 }
 
-/* Asks by a packet. Returns the error, or -1 if the socket is closed. files gets those that come. */
+/* Sends a request as a packet. Returns the error of the answer, or -1 if the socket is closed. files
+ * gets the files of the answer. */
 static int exchange(int fd, const struct wire_ask *ask, const void *bytes, struct wire_answer *answer, int files[2]) {
     static char text[100000];
-    union { struct cmsghdr head; char room[CMSG_SPACE(2 * sizeof(int))]; } rights = {.head = {0}};
+    union {
+        struct cmsghdr head;
+        char room[CMSG_SPACE(2 * sizeof(int))];
+    } rights = {.head = {0}};
     struct iovec out[] = {{(void *)(uintptr_t)ask, sizeof *ask}, {(void *)(uintptr_t)bytes, ask->sent_len}};
     struct iovec in[] = {{answer, sizeof *answer}, {text, sizeof text}};
     struct msghdr packet = {.msg_iov = out, .msg_iovlen = 2};
@@ -115,7 +133,10 @@ static int exchange(int fd, const struct wire_ask *ask, const void *bytes, struc
 }
 
 static void close_thread(int at) {
-    if (threads[at].box) munmap(threads[at].box, sizeof *threads[at].box), close(threads[at].bell);
+    if (threads[at].box) {
+        munmap(threads[at].box, sizeof *threads[at].box);
+        close(threads[at].bell);
+    }
     if (threads[at].fd > 0) close(threads[at].fd);
     threads[at].box = NULL;
     threads[at].fd = 0;
@@ -135,10 +156,11 @@ static void open_thread(int at) {
     atomic_store(&threads[at].box->word, WIRE_ANSWERED);
 }
 
-/* What the program's own socket asks: of names, clients, senders and events. */
+/* Sends a request by the program's own socket, about names, clients, senders or events. Returns
+ * false if the socket is closed. */
 static bool ask_by_program(void) {
-    static const uint32_t ops[] = {OP_NAME, OP_UNNAME, OP_FIND, OP_CLIENT, OP_SENDER, OP_EVENT,
-                                   OP_DEATH, OP_UNBLOCK, OP_CANCEL, OP_SHOW};
+    static const uint32_t ops[] = {OP_NAME,  OP_UNNAME, OP_FIND,    OP_CLIENT, OP_SENDER,
+                                   OP_EVENT, OP_DEATH,  OP_UNBLOCK, OP_CANCEL, OP_SHOW};
     struct wire_ask ask = {.op = ops[below(sizeof ops / sizeof *ops)]};
     struct wire_answer answer = {.error = 0};
     char name[20] = "honest";
@@ -164,22 +186,26 @@ static enum kind kind_of(uint8_t call) {
     switch (call) {
     case BALSAEUCHRE_SEND:
     case BALSAEUCHRE_PULSE:
-    case BALSAEUCHRE_CONNECT_DETACH: return COIDS;
+    case BALSAEUCHRE_CONNECT_DETACH:
+        return COIDS;
     case BALSAEUCHRE_REPLY:
     case BALSAEUCHRE_ERROR:
     case BALSAEUCHRE_READ:
     case BALSAEUCHRE_WRITE:
-    case BALSAEUCHRE_INFO: return RCVIDS;
-    default: return CHIDS;
+    case BALSAEUCHRE_INFO:
+        return RCVIDS;
+    default:
+        return CHIDS;
     }
 }
 
-/* A call that could be right. Few channels are destroyed, so that some stay. */
+/* Returns a call that could be valid. It rarely destroys a channel, so that some stay. */
 static struct wire_ask any_call(int at) {
     static const uint8_t often[] = {BALSAEUCHRE_SEND, BALSAEUCHRE_RECEIVE, BALSAEUCHRE_REPLY, BALSAEUCHRE_PULSE};
     uint8_t kind = below(2) ? often[below(sizeof often)] : (uint8_t)(1 + below(17));
     if (kind == BALSAEUCHRE_SHUTDOWN && below(100)) kind = BALSAEUCHRE_STATE;
-    if ((kind == BALSAEUCHRE_CHANNEL_DESTROY || kind == BALSAEUCHRE_CONNECT_DETACH) && below(4)) kind = BALSAEUCHRE_CONNECT_ATTACH;
+    if ((kind == BALSAEUCHRE_CHANNEL_DESTROY || kind == BALSAEUCHRE_CONNECT_DETACH) && below(4))
+        kind = BALSAEUCHRE_CONNECT_ATTACH;
     struct wire_ask ask = {.op = OP_CALL, .call = ++threads[at].call, .number = number_of_kind(kind_of(kind))};
     ask.pid = below(4) ? shared->pids[below(NUMBERS)] : getpid();
     ask.states = below(2) ? _NTO_TIMEOUT_SEND | _NTO_TIMEOUT_RECEIVE | _NTO_TIMEOUT_REPLY : below(64);
@@ -199,34 +225,40 @@ static struct wire_ask any_call(int at) {
     return ask;
 }
 
-/* Looks at the answer of a box, and notes what it brings. */
+/* Notes the numbers in the answer of a box. */
 static void take_answer(int at) {
     const struct wire_answer answer = threads[at].box->answer;
     if (answer.error) return;
     shared->results++;
     switch (threads[at].kind) {
-    case BALSAEUCHRE_CHANNEL_CREATE: note(CHIDS, answer.result); break;
-    case BALSAEUCHRE_CONNECT_ATTACH: note(COIDS, answer.result); break;
+    case BALSAEUCHRE_CHANNEL_CREATE:
+        note(CHIDS, answer.result);
+        break;
+    case BALSAEUCHRE_CONNECT_ATTACH:
+        note(COIDS, answer.result);
+        break;
     case BALSAEUCHRE_RECEIVE:
         note(RCVIDS, answer.result);
         if (answer.result) note(SCOIDS, answer.info.scoid);
         break;
-    default: break;
+    default:
+        break;
     }
 }
 
-/* Puts an ask into the box of a thread, and changes box and ask while the daemon may read them. */
+/* Puts a request into the box of a thread, and changes the box while the daemon may read it. */
 static void ask_by_box(int at) {
     struct wire_box *box = threads[at].box;
     const uint64_t once = 1;
     struct wire_ask ask = any_call(at);
     threads[at].kind = ask.request.kind;
     box->ask = ask;
-    for (int count = below(64); count; count--) box->bytes[below(below(4) ? LONGEST : (int)sizeof box->bytes)] = (uint8_t)rand();
+    for (int count = below(64); count; count--)
+        box->bytes[below(below(4) ? LONGEST : (int)sizeof box->bytes)] = (uint8_t)rand();
     atomic_store(&box->word, below(50) ? WIRE_OPEN : (uint32_t)below(5));
     atomic_fetch_add(&box->asked, below(100) ? 1 : 2);
     check(write(threads[at].bell, &once, sizeof once) > 0 || errno == EAGAIN);
-    for (int turn = below(8) ? 0 : below(SPINS); turn; turn--) { /* the ask, the word, the answer and the bytes */
+    for (int turn = below(8) ? 0 : below(SPINS); turn; turn--) { /* request, answer and word change */
         ((volatile uint8_t *)&box->ask)[below(sizeof ask)] = (uint8_t)rand();
         if (below(20) == 0) box->answer.length = (uint32_t)rand();
         if (below(20) == 0) atomic_store(&box->word, (uint32_t)below(5));
@@ -243,12 +275,18 @@ static void step(int at) {
         return;
     }
     bool is_closed = recv(threads[at].fd, &byte, 1, MSG_DONTWAIT) == 0;
-    if (is_closed) close_thread(at);
-    else if (atomic_load(&threads[at].box->word) == WIRE_ANSWERED) take_answer(at), ask_by_box(at);
-    else if (below(50) == 0) atomic_store(&threads[at].box->given_up, threads[at].call), ask_by_box(at);
+    if (is_closed) {
+        close_thread(at);
+    } else if (atomic_load(&threads[at].box->word) == WIRE_ANSWERED) {
+        take_answer(at);
+        ask_by_box(at);
+    } else if (below(50) == 0) {
+        atomic_store(&threads[at].box->given_up, threads[at].call);
+        ask_by_box(at);
+    }
 }
 
-/* A program, which joins, does its work, and ends or is killed. */
+/* A program that joins, does its work, and ends or is killed. */
 static void attack(void *seed) {
     struct wire_ask join = {.op = OP_PROCESS, .number = WIRE_VERSION};
     struct wire_answer answer;
@@ -291,7 +329,7 @@ int main(int count, char **words) {
         check(!WIFEXITED(status) || WEXITSTATUS(status) == 0);
         hostile[at] = spawn(attack, (void *)(uintptr_t)rand());
         time_t start = time(NULL);
-        for (int each = 0; each < HONEST; each++) { /* these go on meanwhile */
+        for (int each = 0; each < HONEST; each++) { /* these continue meanwhile */
             while (shared->count[each] == before[each]) {
                 check(waitpid(honest[each], NULL, WNOHANG) == 0 && time(NULL) <= start + PATIENCE);
                 usleep(1000);

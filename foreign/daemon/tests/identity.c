@@ -1,5 +1,6 @@
-/* identity [NAME..]: scoids, rcvids and pids of programs that have ended, as others have their places. Those of two
- * users are for root, and a daemon with the option --group, whose number GROUP is. */
+/* identity [NAME..]: scoids, rcvids and pids of programs that have ended, after others have taken
+ * their places. The tests with two users need root, and a daemon with the option --group. GROUP is
+ * the number of that group. */
 #define _GNU_SOURCE
 #include "tests.h"
 
@@ -12,10 +13,11 @@
 
 #include "wire.h"
 
-static struct shared {
+struct shared {
     volatile int seen, ends;
     volatile pid_t pid;
-} *shared;
+};
+static struct shared *shared;
 
 struct message {
     uint16_t type;
@@ -32,7 +34,7 @@ static void set_priority(int priority) {
     check(SchedSet(0, 0, SCHED_RR, &param) == 0);
 }
 
-/* Sends a message with an event of each kind, and stays until it is to end. */
+/* Sends a message with an event, and stays until the test ends it. */
 static void send_event(struct message *m) {
     int coid = open_name("server");
     m->type = _IO_MAX + 1;
@@ -49,10 +51,13 @@ static void ask_for_signal(void *unused) {
     send_event(&m);
 }
 
-/* Receives one message, whatever pulses come before it, and answers it. */
+/* Receives one message and replies to it. Ignores pulses before it. */
 static rcvid_t take_message(int chid, struct message *m, struct _msg_info *info) {
     for (;;) {
-        union { struct _pulse pulse; struct message message; } room;
+        union {
+            struct _pulse pulse;
+            struct message message;
+        } room;
         set_timeout(LATE);
         rcvid_t rcvid = receive_answering_opens(chid, &room, sizeof room, info);
         check(rcvid != -1);
@@ -71,7 +76,8 @@ static void attach(void *chid) {
     pause();
 }
 
-/* The disconnect of a client that has ended comes after another one has its place, and names the first one. */
+/* A client ends and another gets its place before its disconnect pulse is received. The
+ * pulse names the first client. */
 static void disconnects(void) {
     struct _msg_info first, second;
     struct _client_info client;
@@ -106,7 +112,7 @@ static void note_scoid(void *unused) {
     shared->seen = info.scoid;
 }
 
-/* Programs one after another, in one place: each has an scoid of its own, which is no coid. */
+/* Programs run one after another in one place. Each has an scoid of its own, which isn't a coid. */
 static void scoids(void) {
     enum { PROGRAMS = 100 };
     int all[PROGRAMS], chid = ChannelCreate(0), coid = ConnectAttach(0, 0, chid, _NTO_SIDE_CHANNEL, 0);
@@ -121,7 +127,7 @@ static void scoids(void) {
     check(ConnectDetach(coid) == 0 && ChannelDestroy(chid) == 0);
 }
 
-/* An event of a client that has ended isn't for the one that has its place, of whatever kind it is. */
+/* An event of any kind of a client that has ended isn't delivered to the client that has its place now. */
 static void events(void) {
     struct _msg_info first, second;
     struct message m;
@@ -144,7 +150,8 @@ static void events(void) {
     fails(MsgDeliverEvent(old, &pulse), ESRCH);
     usleep(20000);
     check(waitpid(other, &status, WNOHANG) == 0);
-    for (int turn = 0; turn < 200; turn++) { /* its numbers are from before, also after all places were taken */
+    /* The old rcvid stays invalid after all places of channels have been taken again. */
+    for (int turn = 0; turn < 200; turn++) {
         int chid = ChannelCreate(0), coid = ConnectAttach(0, 0, chid, _NTO_SIDE_CHANNEL, 0);
         check(MsgSendPulse(coid, 10, 1, 1) == 0 && ConnectDetach(coid) == 0 && ChannelDestroy(chid) == 0);
     }
@@ -154,7 +161,7 @@ static void events(void) {
     check(name_detach(name, 0) == 0);
 }
 
-/* Leaves its sockets to a child, which the library doesn't know of, and ends. */
+/* Leaves its sockets to a child that the library doesn't know, and ends. */
 static void leave_to_child(void *unused) {
     struct message m;
     (void)unused;
@@ -170,7 +177,7 @@ static void leave_to_child(void *unused) {
     _exit(0);
 }
 
-/* A program has ended as its process has, whoever has its sockets. */
+/* A program has ended when its process has ended, even if another process has its sockets. */
 static void forked(void) {
     struct _msg_info info;
     struct _client_info client;
@@ -207,7 +214,7 @@ static void leave_blocked(void *unused) {
     _exit(0);
 }
 
-/* The same while a thread of it is REPLY-blocked. */
+/* The same while one of the program's threads is REPLY-blocked. */
 static void forked_blocked(void) {
     struct _msg_info info;
     struct message m;
@@ -240,7 +247,8 @@ static int ask_raw(int fd, const struct wire_ask *ask) {
     return recv(fd, &answer, sizeof answer, 0) == sizeof answer ? answer.error : -1;
 }
 
-/* The program with this pid, which is to be that of one that has ended. Returns whether its pid is that. */
+/* Starts a program that should get this pid, the pid of a program that has ended. Returns whether it got
+ * it. */
 static bool take_pid(pid_t wanted, int from_parent) {
     char text[20], byte;
     int fd = open("/proc/sys/kernel/ns_last_pid", O_WRONLY), length = snprintf(text, sizeof text, "%d", wanted - 1);
@@ -258,7 +266,7 @@ static bool take_pid(pid_t wanted, int from_parent) {
     return child == wanted;
 }
 
-/* A socket of a process that has ended is of no thread of a later program that has its pid. */
+/* A socket of a process that has ended doesn't join as a thread of a later program with the same pid. */
 static void reused_pids(void) {
     int line[2];
     const struct wire_ask join = {.op = OP_THREAD, .number = 9, .value = 10};
@@ -291,8 +299,8 @@ static void reused_pids(void) {
     }
 }
 
-enum { LINK = 5 }; /* numbers of users */
-static const uid_t users[] = {12345, 12346};
+enum { LINK = 5 };                           /* the most messages of a program */
+static const uid_t users[] = {12345, 12346}; /* the numbers of two users */
 
 static gid_t group_of_daemon(void) {
     const char *group = getenv("GROUP");
@@ -304,7 +312,7 @@ static void become(uid_t user) {
     check(setgroups(0, NULL) == 0 && setgid(group) == 0 && setuid(user) == 0 && chdir("/") == 0);
 }
 
-/* Sends who it is again and again, at the highest priority or at the lowest, and ends. */
+/* Sends its user's number several times, at the highest or the lowest priority, and ends. */
 static void say_user(void *at) {
     struct message m = {.type = _IO_MAX + 1};
     uid_t user = users[(intptr_t)at];
@@ -315,16 +323,26 @@ static void say_user(void *at) {
     for (int left = 1 + (int)getpid() % LINK; left; left--) check(MsgSend(coid, &m, sizeof m, NULL, 0) == (long)user);
 }
 
-/* Two users' programs come and go. A server that asks who a client is, once for each scoid until its disconnect, takes
- * none for another. */
+/* Programs of two users come and go. A server asks for each scoid once which user the client has, and keeps
+ * the result until the disconnect pulse. The result is right for each message. */
 static void two_users(void) {
     enum { PROGRAMS = 300, AT_A_TIME = 6 };
-    static struct { int scoid; uid_t user; } known[1024];
+    static struct {
+        int scoid;
+        uid_t user;
+    } known[1024];
     int left = 0, started = 0;
     name_attach_t *name = name_attach(NULL, "server", 0);
     while (started < PROGRAMS || left) {
-        for (; started < PROGRAMS && left < AT_A_TIME; started++, left++) spawn(say_user, (void *)(intptr_t)(rand() % 2));
-        union { struct _pulse pulse; struct message message; } room;
+        while (started < PROGRAMS && left < AT_A_TIME) {
+            spawn(say_user, (void *)(intptr_t)(rand() % 2));
+            started++;
+            left++;
+        }
+        union {
+            struct _pulse pulse;
+            struct message message;
+        } room;
         struct _msg_info info;
         int free_entry = -1, at = 0, status;
         set_timeout(20);
@@ -379,7 +397,7 @@ static void ask_as_user(void *at) {
     ask_for_signal(NULL);
 }
 
-/* A server may signal its client as the host lets it: root may, another user may not. */
+/* A server may signal its client if the host lets it: root may, and another user may not. */
 static void signals_of_users(void) {
     int status;
     pid_t server = spawn(serve_as_user, NULL), client = spawn(ask_as_user, (void *)0);
@@ -401,9 +419,14 @@ static void of_users(void) {
     signals_of_users();
 }
 
-#define TEST(name) {#name, name}
-static const struct { const char *name; void (*run)(void); } tests[] = {
-    TEST(disconnects), TEST(scoids), TEST(events), TEST(forked), TEST(forked_blocked), TEST(reused_pids), TEST(of_users),
+#define TEST(name) \
+    { #name, name }
+static const struct {
+    const char *name;
+    void (*run)(void);
+} tests[] = {
+    TEST(disconnects),    TEST(scoids),      TEST(events),   TEST(forked),
+    TEST(forked_blocked), TEST(reused_pids), TEST(of_users),
 };
 
 static void run(void *at) { tests[(intptr_t)at].run(); }

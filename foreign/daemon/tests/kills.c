@@ -1,5 +1,5 @@
-/* kills KILLS SEED: servers and clients as processes, one of which is killed at a random time, again and again; after
- * each kill all others have to go on. */
+/* kills KILLS SEED: servers and clients as processes. Again and again one of them is killed at a random time.
+ * After each kill all others have to continue. */
 #define _GNU_SOURCE
 #include "tests.h"
 
@@ -8,7 +8,11 @@
 
 enum { SERVERS = 3, WORKERS = 8, LONG = 100000 };
 
-static struct { volatile long count; volatile int step; } *progress; /* by worker */
+struct progress {
+    volatile long count;
+    volatile int step;
+};
+static struct progress *progress; /* by worker */
 static int worker;
 
 static void note(int step) {
@@ -16,18 +20,16 @@ static void note(int step) {
     progress[worker].step = step;
 }
 
-static bool is_gone(int error) {
-    return error == ESRCH || error == EBADF || error == ENOENT || error == EAGAIN;
-}
+static bool is_gone(int error) { return error == ESRCH || error == EBADF || error == ENOENT || error == EAGAIN; }
 
 static unsigned rest_of(unsigned length, unsigned at) { return (length * 7 + at) & 127; }
 
-/* Each byte becomes another, so that what a box had before is no answer. */
+/* Changes each byte, so that the old content of a box isn't a correct reply. */
 static void invert(char *bytes, size_t length) {
     for (size_t at = 0; at < length; at++) bytes[at] = (char)~bytes[at];
 }
 
-/* Answers a message of length bytes, which begins with that length, in one of four ways. */
+/* Replies to a message in one of four ways. The message begins with its length in bytes. */
 static void answer(rcvid_t rcvid, char *room, const struct _msg_info *info) {
     uint32_t length;
     memcpy(&length, room, sizeof length);
@@ -66,7 +68,7 @@ static void serve(void *at) {
     }
 }
 
-/* Sends a message, and looks whether the right answer has come. Returns whether the connection still serves. */
+/* Sends a message, and checks the reply. Returns whether the connection still works. */
 static bool ask(int coid, char *sent, char *back) {
     uint32_t length = 4 + (uint32_t)rand() % (rand() % 16 ? 100 : LONG - 4);
     memcpy(sent, &length, sizeof length);
@@ -112,7 +114,7 @@ static void expect_progress(int but, const pid_t *pids) {
     for (int at = 0; at < WORKERS; at++) {
         while (at != but && progress[at].count == before[at]) {
             check(waitpid(pids[at], NULL, WNOHANG) == 0);
-            if (time(NULL) > start + PATIENCE) fprintf(stderr, "worker %d stands at step %d\n", at, progress[at].step);
+            if (time(NULL) > start + PATIENCE) fprintf(stderr, "worker %d is at step %d\n", at, progress[at].step);
             check(time(NULL) <= start + PATIENCE);
             usleep(100);
         }

@@ -1,5 +1,5 @@
-/* limits [NAME..]: what a process may have, clients that are stopped, long messages, and users that may not connect.
- * For a daemon of 12 processes of 4 threads, or in threads of SEATS. */
+/* limits [NAME..]: the limits of a process, clients that are stopped, long messages, and users that may not
+ * connect. It needs a daemon of 12 processes with 4 threads each, or with SEATS threads for this program. */
 #define _GNU_SOURCE
 #include "tests.h"
 
@@ -30,7 +30,7 @@ static void connections(void) {
     check(ChannelDestroy(chid) == 0);
 }
 
-/* Pulses over connections that never were cost nothing that others need. */
+/* Pulses over connections that never existed use nothing that others need. */
 static void pulses(void) {
     struct _pulse pulse;
     int chid = ChannelCreate(0), coid = ConnectAttach(0, 0, chid, 0, 0);
@@ -58,7 +58,7 @@ static void flood(void *unused) {
     pause();
 }
 
-/* Beside a program that only makes the longest calls, others come, send and go. */
+/* While a program only makes the longest calls, other programs come, send and go. */
 static void busy(void) {
     struct timespec start, end;
     pid_t server = spawn(echo, NULL), flooding = spawn(flood, NULL);
@@ -89,7 +89,7 @@ static void threads(void) {
     pthread_t all[64];
     int chid = ChannelCreate(0), count = seats();
     for (int at = 0; at < count; at++) check(pthread_create(&all[at], NULL, receive, (void *)(intptr_t)chid) == 0);
-    while (!refused) usleep(1000); /* all seats are taken, and one has waited in vain */
+    while (!refused) usleep(1000); /* all seats are taken, and one thread has failed with EAGAIN */
     check(ChannelDestroy(chid) == 0);
     for (int at = 0; at < count; at++) {
         void *error;
@@ -108,7 +108,7 @@ static void *come_and_receive(void *chid) {
     return receive(chid);
 }
 
-/* A thread that comes as all seats are taken waits until one is free. */
+/* A thread that comes while all seats are taken waits until a seat is free. */
 static void late(void) {
     pthread_t all[64];
     int chid = ChannelCreate(0), count = seats();
@@ -136,11 +136,11 @@ static void processes(void) {
         all[count] = spawn(create_and_wait, &line[1]);
         check(count < 39 && read(line[0], &error, sizeof error) == sizeof error);
     }
-    check(count == 12 && error == EAGAIN); /* besides this one, eleven have a place */
+    check(count == 12 && error == EAGAIN); /* this program and eleven others have a place */
     for (int at = 0; at < count; at++) kill_child(all[at]);
 }
 
-/* Each byte becomes another, so that what a box had before is no answer. */
+/* Changes each byte, so that the old content of a box isn't a correct reply. */
 static void invert(char *bytes, size_t length) {
     for (size_t at = 0; at < length; at++) bytes[at] = (char)~bytes[at];
 }
@@ -158,7 +158,7 @@ static void echo(void *unused) {
     }
 }
 
-/* Messages of all lengths up to 1 MiB, of two parts, and none that is longer. */
+/* Messages of various lengths up to 1 MiB, in two parts. A longer message is refused. */
 static void lengths(void) {
     static char sent[MOST + 1], back[MOST];
     const size_t all[] = {0, 1, 1023, 1024, 1025, 32767, 32768, 32769, 65536, 200000, MOST - 1, MOST};
@@ -203,7 +203,7 @@ static void send_long(void *unused) {
     for (;;) MsgSend(coid, sent, sizeof sent, back, sizeof back);
 }
 
-/* A client that is stopped, with an answer of 1 MiB before it, holds up nobody. */
+/* A client that is stopped while it has a reply of 1 MiB delays no other program. */
 static void stopped(void) {
     static char room[MOST];
     pid_t server = spawn(echo, NULL), client;
@@ -231,8 +231,7 @@ static void as_nobody(void *unused) {
     check(ChannelCreate(0) == -1);
 }
 
-/* Another user, for whom the socket's file may be open. Only root can try. */
-/* Without a daemon each call fails, and it is told where it was looked for, once. */
+/* Without a daemon each call fails. Standard error says once where the program looked for it. */
 static void without_daemon(void *unused) {
     int told[2];
     char text[100] = "";
@@ -247,6 +246,7 @@ static void without_daemon(void *unused) {
 
 static void absent(void) { expect_end(spawn(without_daemon, NULL)); }
 
+/* Another user may not connect, even if the mode of the socket's file allows it. Only root can try this. */
 static void users(void) {
     const char *path = getenv("BALSAEUCHRE_SYSTEM");
     struct stat state;
@@ -265,7 +265,7 @@ static void live(void *unused) {
     check(coid > 0 && MsgSend(other, "hello", 6, back, sizeof back) == 6);
 }
 
-/* Processes one after another, all of which have their places. */
+/* Processes run one after another, and each gets a place. */
 static void lives(void) {
     const char *rounds = getenv("LIVES");
     pid_t server = spawn(echo, NULL);
@@ -273,10 +273,14 @@ static void lives(void) {
     kill_child(server);
 }
 
-#define TEST(name) {#name, name}
-static const struct { const char *name; void (*run)(void); } tests[] = {
-    TEST(channels), TEST(connections), TEST(pulses), TEST(threads), TEST(late), TEST(processes), TEST(lengths),
-    TEST(writes), TEST(stopped), TEST(users), TEST(absent), TEST(lives), TEST(busy),
+#define TEST(name) \
+    { #name, name }
+static const struct {
+    const char *name;
+    void (*run)(void);
+} tests[] = {
+    TEST(channels), TEST(connections), TEST(pulses), TEST(threads), TEST(late),  TEST(processes), TEST(lengths),
+    TEST(writes),   TEST(stopped),     TEST(users),  TEST(absent),  TEST(lives), TEST(busy),
 };
 
 static void run(void *at) { tests[(intptr_t)at].run(); }

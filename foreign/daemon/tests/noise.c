@@ -1,6 +1,7 @@
-/* noise SOCKET PACKETS SEED: sends packets that no program would send, as a process and as threads of it: of random
- * bytes, cut, too long, with lengths that aren't right, calls in the wrong place, and answers that are never read; and
- * asks of that kind in the threads' boxes, which change while they are read. */
+/* noise SOCKET PACKETS SEED: sends packets that no program would send, as a process and as its threads.
+ * Some are random bytes, truncated, too long, or have wrong lengths. Others are calls where none is
+ * allowed, or have answers that are never read. Such requests also go into the threads' boxes, and change
+ * while the daemon reads them. */
 #define _GNU_SOURCE
 #include "wire.h"
 
@@ -17,8 +18,12 @@
 
 enum { SOCKETS = 4, ROOM = sizeof(struct wire_ask) + 4096 };
 
-/* The first is the process's. */
-static struct { int fd, left, bell; uint32_t call; struct wire_box *box; } all[SOCKETS];
+/* The first socket is the process's own. */
+static struct {
+    int fd, left, bell;
+    uint32_t call;
+    struct wire_box *box;
+} all[SOCKETS];
 static long closed, answered;
 
 static int connect_to(const char *path) {
@@ -48,14 +53,17 @@ static void open_box(int at, struct msghdr *in) {
     close(files[0]);
 }
 
-/* Opens a socket again, and mostly joins. */
+/* Opens a socket again, and in most cases joins. */
 static void reopen(const char *path, int at) {
     struct wire_ask ask = {.op = at ? OP_THREAD : OP_PROCESS, .number = at ? at : WIRE_VERSION, .value = 10};
     char room[ROOM], rights[100];
     struct iovec part = {room, sizeof room};
     struct msghdr in = {.msg_iov = &part, .msg_iovlen = 1, .msg_control = rights, .msg_controllen = sizeof rights};
     if (all[at].fd) close(all[at].fd);
-    if (all[at].box) munmap(all[at].box, sizeof *all[at].box), close(all[at].bell);
+    if (all[at].box) {
+        munmap(all[at].box, sizeof *all[at].box);
+        close(all[at].bell);
+    }
     all[at].box = NULL;
     all[at].fd = connect_to(path);
     all[at].left = 1 + below(100);
@@ -65,7 +73,7 @@ static void reopen(const char *path, int at) {
     open_box(at, &in);
 }
 
-/* An ask whose fields are each right, near to that, or anything. */
+/* Returns a request in which each field is right, nearly right, or random. */
 static struct wire_ask any_ask(int at) {
     struct wire_ask ask;
     for (size_t byte = 0; byte < sizeof ask; byte++) ((uint8_t *)&ask)[byte] = (uint8_t)(below(3) ? 0 : rand());
@@ -98,7 +106,7 @@ static void send_packet(int at) {
     }
 }
 
-/* Puts an ask into a box, of which some changes while the daemon reads it. */
+/* Puts a request into a box, and changes some of it while the daemon reads it. */
 static void put_in_box(int at) {
     struct wire_box *box = all[at].box;
     const uint64_t once = 1;

@@ -1,11 +1,11 @@
-/* recorded CLIENTS MESSAGES: a server and clients as processes of their own. Each client prints the results that it
- * got, as a record of the daemon has them; tests/results compares both. */
+/* recorded CLIENTS MESSAGES: a server and clients as processes. Each client prints the results of its calls
+ * in the form of the daemon's record. tests/results compares both. */
 #define _GNU_SOURCE
 #include "tests.h"
 
 static int messages;
 
-/* Answers with the text backwards, or an error. */
+/* Replies with the text backwards, or with an error. */
 static void serve(void *unused) {
     char room[100], back[100];
     struct _msg_info info;

@@ -1,4 +1,4 @@
-/* What the daemon's tests share. A test ends its process where something is not as it should be. */
+/* Functions that the daemon's tests share. If a check fails, the test ends its process with status 1. */
 #ifndef TESTS_H
 #define TESTS_H
 
@@ -25,7 +25,8 @@
     } while (0)
 #define fails(call, error) check((call) == -1 && errno == (error))
 
-enum { PATIENCE = 60, LATE = 1000 * PATIENCE }; /* seconds, milliseconds: in which all comes, also on a busy machine */
+/* In seconds and in milliseconds, the time within which everything happens, even on a busy machine. */
+enum { PATIENCE = 60, LATE = 1000 * PATIENCE };
 
 static inline void set_timeout(int milliseconds) {
     uint64_t time = (uint64_t)milliseconds * 1000000u;
@@ -33,7 +34,7 @@ static inline void set_timeout(int milliseconds) {
     check(TimerTimeout(CLOCK_MONOTONIC, states, NULL, &time, NULL) == 0);
 }
 
-/* Starts a process that does this work, and then ends. */
+/* Starts a process that does this work and then ends. */
 static inline pid_t spawn(void (*work)(void *argument), void *argument) {
     pid_t child = fork();
     if (child == 0) {
@@ -45,7 +46,7 @@ static inline pid_t spawn(void (*work)(void *argument), void *argument) {
     return child;
 }
 
-/* Waits until a process has ended by itself without a fault. */
+/* Waits until a process has ended by itself, with status 0. */
 static inline void expect_end(pid_t child) {
     int status;
     check(waitpid(child, &status, 0) == child && WIFEXITED(status) && WEXITSTATUS(status) == 0);
@@ -56,7 +57,8 @@ static inline void kill_child(pid_t child) {
     check(kill(child, SIGKILL) == 0 && waitpid(child, &status, 0) == child);
 }
 
-/* Opens the name of a server that may have to start yet. It answers no _IO_CONNECT with an error. */
+/* Opens the name of a server, which may not have started yet. The server must not reply to
+ * _IO_CONNECT with an error. */
 static inline int open_name(const char *name) {
     for (;;) {
         int coid = name_open(name, 0);

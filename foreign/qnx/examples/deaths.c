@@ -1,4 +1,5 @@
-/* Pulses of ends: of a thread, of a connection whose server's channel is gone, and of a client that goes away. */
+/* Pulses about the end of a thread, of a connection whose server's channel is destroyed, and of a client that
+ * detaches. */
 #include <pthread.h>
 #include <stdio.h>
 #include <stdlib.h>

@@ -1,4 +1,5 @@
-/* A driver: an interrupt's pulse, clients that wait for data, a client that gives up, and one that is cancelled. */
+/* A driver: an interrupt's pulse, clients that wait for data, a client that gives up, and a client that is
+ * cancelled. */
 #include <errno.h>
 #include <pthread.h>
 #include <stdio.h>

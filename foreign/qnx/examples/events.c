@@ -1,4 +1,5 @@
-/* A server that delivers events: clients ask to be told, are answered at once, and get a pulse or a signal later. */
+/* A server that delivers events. Clients register an event, get a reply at once, and get a pulse or a signal
+ * later. */
 #include <errno.h>
 #include <pthread.h>
 #include <signal.h>
@@ -77,7 +78,7 @@ int main(void)
 
     sigemptyset(&usr1);
     sigaddset(&usr1, SIGUSR1);
-    pthread_sigmask(SIG_BLOCK, &usr1, NULL); /* else it would end the call by which we make it happen */
+    pthread_sigmask(SIG_BLOCK, &usr1, NULL); /* otherwise the signal would end the call that causes it */
     server_chid = ChannelCreate(0);
     pthread_create(&tid, NULL, server, NULL);
     int coid = ConnectAttach(0, 0, server_chid, _NTO_SIDE_CHANNEL, 0);

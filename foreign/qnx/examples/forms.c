@@ -1,4 +1,4 @@
-/* The forms that return their errors, and those that no cancellation ends. */
+/* The forms that return their errors, and the forms that aren't cancellation points. */
 #include <errno.h>
 #include <pthread.h>
 #include <stdio.h>
@@ -27,7 +27,7 @@ static void *never_cancelled(void *coid)
 {
     long status;
 
-    pthread_cancel(pthread_self()); /* it is pending, and MsgSendnc is no cancellation point */
+    pthread_cancel(pthread_self()); /* stays pending, since MsgSendnc isn't a cancellation point */
     status = MsgSendnc(*(int *)coid, "nc", 3, NULL, 0);
     printf("MsgSendnc: %ld\n", status);
     MsgSend(*(int *)coid, "never sent", 11, NULL, 0);

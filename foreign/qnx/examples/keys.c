@@ -1,4 +1,4 @@
-/* Data that passes through a client: two servers know by its key that it came back as it was. */
+/* Data that passes through a client. By a key the server checks that the data came back unchanged. */
 #include <pthread.h>
 #include <stdio.h>
 #include <stdlib.h>

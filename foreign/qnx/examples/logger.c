@@ -1,4 +1,5 @@
-/* A log: a header is received, and the text behind it read in blocks. A query is answered in parts by MsgWrite. */
+/* A log. The server receives a header, and reads the text after it in blocks. It replies to a query in parts,
+ * by MsgWrite. */
 #include <errno.h>
 #include <pthread.h>
 #include <stdio.h>

@@ -1,4 +1,4 @@
-/* Who is at the other end: a server that looks at its client, and a client that lists its connections. */
+/* Data about the other end: a server looks at its client, and a client lists its connections. */
 #include <pthread.h>
 #include <stdio.h>
 #include <stdlib.h>

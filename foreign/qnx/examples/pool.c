@@ -12,7 +12,10 @@
 
 typedef union {
     struct _pulse pulse;
-    struct { uint16_t type; int32_t number; } request;
+    struct {
+        uint16_t type;
+        int32_t number;
+    } request;
 } message_t;
 
 static int chid, coid;
@@ -42,8 +45,10 @@ static void *ask(void *arg)
     long right = 0;
     int32_t twice;
 
-    for (int i = 0; i < ROUNDS; i++, msg.request.number++)
+    for (int i = 0; i < ROUNDS; i++) {
         right += MsgSend(coid, &msg, sizeof msg, &twice, sizeof twice) == EOK && twice == 2 * msg.request.number;
+        msg.request.number++;
+    }
     return (void *)right;
 }
 

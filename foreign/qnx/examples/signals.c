@@ -1,4 +1,5 @@
-/* Signals: a handler that ends MsgReceive, and one that sends a pulse to the loop that it interrupts. */
+/* Signals: a handler that ends MsgReceive, and a handler that sends a pulse to the loop that it
+ * interrupts. */
 #include <errno.h>
 #include <pthread.h>
 #include <signal.h>
@@ -28,7 +29,7 @@ static void *killer(void *arg)
 {
     delay(20);
     pthread_kill(*(pthread_t *)arg, SIGUSR1);
-    do { /* until it comes while main waits in a call */
+    do { /* until the signal comes while main waits in a call */
         delay(20);
         pthread_kill(*(pthread_t *)arg, SIGTERM);
     } while (!ended);

@@ -1,4 +1,4 @@
-/* Timeouts of each state, with a server that is told to unblock a client, and decides itself. */
+/* Timeouts in each state. A server gets a pulse to unblock a client, and decides itself. */
 #include <errno.h>
 #include <pthread.h>
 #include <stdio.h>
@@ -11,7 +11,10 @@ static int plain, told;
 
 static void *server(void *arg)
 {
-    union { struct _pulse pulse; char text[16]; } msg;
+    union {
+        struct _pulse pulse;
+        char text[16];
+    } msg;
     struct _msg_info info;
     int held = 0;
 
@@ -20,7 +23,7 @@ static void *server(void *arg)
         if (rcvid == -1)
             return arg;
         if (rcvid > 0) {
-            held = rcvid; /* and no answer, until the client wants to go */
+            held = rcvid; /* without a reply, until the client is to be unblocked */
             continue;
         }
         if (msg.pulse.code != _PULSE_CODE_UNBLOCK)
@@ -59,7 +62,7 @@ int main(void)
     set_timeout(_NTO_TIMEOUT_SEND | _NTO_TIMEOUT_REPLY, 5);
     if (MsgSend(to_plain, "a", 2, text, sizeof text) == -1)
         printf("SEND-blocked: %s\n", strerror(errno));
-    set_timeout(_NTO_TIMEOUT_REPLY, 5); /* however long it is SEND-blocked before */
+    set_timeout(_NTO_TIMEOUT_REPLY, 5); /* it may be SEND-blocked for longer before */
     if (MsgSend(to_told, "b", 2, text, sizeof text) == -1)
         printf("REPLY-blocked: %s\n", strerror(errno));
     TimerTimeout(CLOCK_MONOTONIC, _NTO_TIMEOUT_RECEIVE, NULL, NULL, NULL);

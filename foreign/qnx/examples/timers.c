@@ -1,4 +1,4 @@
-/* Timers that send pulses: a periodic one, and one shot that the fifth tick starts. */
+/* Timers that send pulses: a periodic timer, and a timer of one shot that the fifth tick starts. */
 #include <stdio.h>
 #include <stdlib.h>
 #include <string.h>
@@ -29,7 +29,10 @@ static timer_t make_timer(int coid, int code, long first_ms, long every_ms)
 
 int main(void)
 {
-    union { struct _pulse pulse; char text[64]; } msg;
+    union {
+        struct _pulse pulse;
+        char text[64];
+    } msg;
     int ticks = 0, ended = 0;
     int chid = ChannelCreate(0);
     int coid = ConnectAttach(ND_LOCAL_NODE, 0, chid, _NTO_SIDE_CHANNEL, 0);

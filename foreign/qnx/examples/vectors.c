@@ -1,4 +1,5 @@
-/* Messages of several parts: a header and data, received into a ring of blocks, and answered from two buffers. */
+/* Messages of several parts: a header and data are received into a ring of blocks. The reply comes from two
+ * buffers. */
 #include <pthread.h>
 #include <stdio.h>
 #include <stdlib.h>
@@ -29,7 +30,7 @@ static void *server(void *arg)
            (int)info.srcmsglen);
     for (int i = 0; i < 4; i++)
         printf("block %d: %.*s\n", i, BLOCK, cache[i]);
-    /* What didn't fit stays with the client until it is read. */
+    /* The bytes that didn't fit stay with the client until they are read. */
     SETIOV(iov + 0, rest, 4);
     SETIOV(iov + 1, rest + 4, sizeof rest - 4);
     ssize_t more = MsgReadv(rcvid, iov, 2, sizeof hdr + 4 * BLOCK);

@@ -1,4 +1,5 @@
-/* A select-like server: clients leave events, which are delivered as data comes. A second ask replaces the first. */
+/* A server like select. Clients leave events, which it delivers when data comes. A client's second request
+ * replaces its first. */
 #include <errno.h>
 #include <pthread.h>
 #include <stdio.h>

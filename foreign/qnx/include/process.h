@@ -1,3 +1,3 @@
-/* QNX's process.h as far as gettid, getpid and their kin go. spawn and its kin are missing. */
+/* QNX's process.h with gettid, getpid and related functions. spawn and related functions are missing. */
 #pragma GCC system_header
 #include <unistd.h>

@@ -1,15 +1,18 @@
-/* The host's pthread.h, whose threads have QNX's priorities, 1 to 255. They order messages; the host's scheduling stays
- * as it is, so no call here needs a privilege. These functions are the host's but for what is said here:
+/* The host's pthread.h. Its threads have QNX's priorities, 1 to 255. The priorities order messages and don't
+ * change the host's scheduling, so no call here needs a privilege. These functions differ from the host's:
  *
- *   pthread_create               takes a null thread. A new thread has the priority of its creator, or with
- *                                PTHREAD_EXPLICIT_SCHED that of its attributes
- *   pthread_attr_setschedparam, pthread_attr_getschedparam   a priority from 1 to 255 with any policy. EINVAL
- *   pthread_setschedparam, pthread_setschedprio   change a thread's priority. EINVAL; ESRCH: it has no place in the
+ *   pthread_create               accepts a null thread. A new thread has the priority of its creator, or with
+ *                                PTHREAD_EXPLICIT_SCHED the priority of its attributes
+ *   pthread_attr_setschedparam, pthread_attr_getschedparam
+ *                                accept and return a priority from 1 to 255 with any policy. EINVAL
+ *   pthread_setschedparam, pthread_setschedprio
+ *                                change a thread's priority. EINVAL; ESRCH: the thread has no place in the
  *                                kernel, or has ended
- *   pthread_getschedparam        its priority, and the policy that was last set, or SCHED_RR. ESRCH as above
- *   pthread_cancel               ends a call that the thread is blocked in
+ *   pthread_getschedparam        returns the thread's priority, and the policy that was last set, or
+ *                                SCHED_RR. ESRCH as above
+ *   pthread_cancel               ends a call in which the thread is blocked
  *   pthread_join                 ends with ETIMEDOUT after a TimerTimeout with _NTO_TIMEOUT_JOIN
- *   pthread_setname_np           a thread's name in neutrino_show and in a record
+ *   pthread_setname_np           sets the thread's name in neutrino_show and in a record
  */
 #pragma GCC system_header
 #ifndef BALSAEUCHRE_QNX_NO_WRAPPERS
@@ -36,13 +39,14 @@
 extern "C" {
 #endif
 
-/* The host declares them for _GNU_SOURCE alone. */
+/* The host declares these two only for _GNU_SOURCE. */
 int pthread_setname_np(pthread_t thread, const char *name) __THROW;
 int pthread_getname_np(pthread_t thread, char *name, size_t length) __THROW;
 
-/* One lock of the program, and threads that sleep on an address under it until another one signals that address, which
- * wakes the one that has slept longest, or with broadcast all. timedwait ends with ETIMEDOUT after so many nanoseconds;
- * 0 is no limit. They return 0 or an error; the waits are cancellation points, after which the lock is held. */
+/* One lock of the program, and threads that sleep on an address under this lock. A signal of the address
+ * wakes the thread that has slept longest, and a broadcast wakes all its threads. timedwait ends with
+ * ETIMEDOUT after nsec nanoseconds; with nsec 0 it has no limit. The functions return 0 or an error. The
+ * waits are cancellation points, after which the thread has the lock. */
 int pthread_sleepon_lock(void);
 int pthread_sleepon_unlock(void);
 int pthread_sleepon_wait(const volatile void *addr);

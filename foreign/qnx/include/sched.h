@@ -1,6 +1,6 @@
-/* The host's sched.h, with QNX's priorities, 1 to 255 of each policy. The functions that take a pid are those of
- * sys/neutrino.h for the calling thread: sched_setparam, sched_getparam, sched_setscheduler, which returns the old
- * policy, and sched_getscheduler. */
+/* The host's sched.h, with QNX's priorities, 1 to 255 for each policy. Four functions take a pid, and work on
+ * the calling thread like SchedSet and SchedGet of sys/neutrino.h. They are sched_setparam, sched_getparam,
+ * sched_getscheduler, and sched_setscheduler, which returns the old policy. */
 #pragma GCC system_header
 #ifndef BALSAEUCHRE_QNX_NO_WRAPPERS
 #pragma redefine_extname sched_setparam neutrino_sched_setparam
@@ -11,10 +11,11 @@
 #pragma redefine_extname sched_get_priority_max neutrino_sched_get_priority_max
 #endif
 #ifndef _BITS_TYPES_STRUCT_SCHED_PARAM
-#define _BITS_TYPES_STRUCT_SCHED_PARAM 1 /* the host's has the first member alone, and is only passed by address */
+/* The host's struct has only the first member, and is only passed by address. */
+#define _BITS_TYPES_STRUCT_SCHED_PARAM 1
 struct sched_param {
-    int sched_priority;    /* that was set */
-    int sched_curpriority; /* that the thread has: of whom it works for; not read */
+    int sched_priority;    /* as it was last set */
+    int sched_curpriority; /* the thread's current priority, which may be its client's; not read */
 };
 #endif
 #include_next <sched.h>
@@ -25,11 +26,12 @@ struct sched_param {
 extern "C" {
 #endif
 
-#define SCHED_NOCHANGE 0x6e00 /* SchedSet: the policy stays as it is */
+#define SCHED_NOCHANGE 0x6e00 /* with this, SchedSet doesn't change the policy */
 #define SCHED_SPORADIC 0x6e01
 
-/* The calling thread's priority, for a pid of 0 or the program's. setprio returns the old one. -1: ESRCH (another
- * process), EINVAL (no priority from 1 to 255), and what a first call fails with. */
+/* Return and set the priority of the calling thread. pid is 0 or the program's. setprio returns the old
+ * priority. -1: ESRCH (another process), EINVAL (the priority isn't from 1 to 255), and the errors of a first
+ * call. */
 int getprio(pid_t pid);
 int setprio(pid_t pid, int priority);
 

@@ -1,5 +1,5 @@
-/* The host's signal.h, with QNX's events. A handler that is set by sigaction or signal ends a call that its thread is
- * blocked in with EINTR, as under QNX; SA_RESTART makes no difference to that. */
+/* The host's signal.h, with QNX's events. A handler that sigaction or signal has set ends the call in which
+ * its thread is blocked, with EINTR, as under QNX. SA_RESTART doesn't change this. */
 #pragma GCC system_header
 #ifndef BALSAEUCHRE_QNX_NO_WRAPPERS
 #pragma redefine_extname sigaction neutrino_sigaction

@@ -1,7 +1,7 @@
-/* The host's time.h, with QNX's timer_t. A timer of SIGEV_PULSE sends a pulse over its connection at each expiry;
- * timer_getoverrun counts those that the kernel refused. A timer of another event is the host's. Of timer_create:
- * EAGAIN (256 timers), EINVAL (the pulse's code or priority, or a clock that has no timers), EFAULT (no place for the
- * id), and what a first call fails with. */
+/* The host's time.h, with QNX's timer_t. A timer of SIGEV_PULSE sends a pulse over its connection at each
+ * expiry; timer_getoverrun counts the pulses that the kernel refused. A timer of another event is the host's.
+ * The errors of timer_create: EAGAIN (256 timers), EINVAL (the pulse's code or priority, or a clock that has
+ * no timers), EFAULT (no place for the id), and the errors of a first call. */
 #pragma GCC system_header
 #ifndef BALSAEUCHRE_QNX_NO_WRAPPERS
 #pragma redefine_extname timer_create neutrino_timer_create
@@ -20,7 +20,7 @@ extern "C" {
 #define CLOCK_SOFTTIME CLOCK_REALTIME
 typedef char neutrino_timer_t_is_qnxs[sizeof(timer_t) == sizeof(int) ? 1 : -1];
 
-/* A time in nanoseconds, and back. */
+/* Convert a time from nanoseconds, and to nanoseconds. */
 static inline void nsec2timespec(struct timespec *time, unsigned long nanoseconds) {
     time->tv_sec = (time_t)(nanoseconds / 1000000000u);
     time->tv_nsec = (long)(nanoseconds % 1000000000u);
@@ -44,7 +44,7 @@ static inline int nanospin(const struct timespec *time) { return nanospin_ns(tim
 
 struct sigevent;
 
-/* TimerTimeout of sys/neutrino.h, with times as struct timespec. EINVAL also for a time that is none. */
+/* TimerTimeout of sys/neutrino.h, with times as struct timespec. EINVAL also for an invalid time. */
 int timer_timeout(clockid_t id, int flags, const struct sigevent *notify, const struct timespec *ntime,
                   struct timespec *otime);
 int timer_timeout_r(clockid_t id, int flags, const struct sigevent *notify, const struct timespec *ntime,

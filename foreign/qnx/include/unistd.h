@@ -1,4 +1,4 @@
-/* The host's unistd.h, and QNX's delay. */
+/* The host's unistd.h, with QNX's delay and gettid. */
 #pragma GCC system_header
 #ifndef BALSAEUCHRE_QNX_NO_WRAPPERS
 #pragma redefine_extname gettid neutrino_gettid
@@ -10,10 +10,11 @@
 extern "C" {
 #endif
 
-/* Sleeps for so many milliseconds. Returns 0, or those that were left when a signal handler ended the sleep. */
+/* Sleeps for this number of milliseconds. Returns 0, or the number that was left when a signal handler ended
+ * the sleep. */
 unsigned delay(unsigned milliseconds);
 
-/* The calling thread's tid, as struct _msg_info has it. -1: it has no place in the kernel. */
+/* Returns the calling thread's tid, as in struct _msg_info. -1: the thread has no place in the kernel. */
 int gettid(void) __THROW;
 
 #ifdef __cplusplus

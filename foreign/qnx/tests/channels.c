@@ -93,7 +93,7 @@ void peers(void) {
     check_client(message.scoid);
     check(MsgReply(rcvid, 0, NULL, 0) == 0);
     end_send(&client);
-    check(ChannelDestroy(chid) == 0); /* its connections stay */
+    check(ChannelDestroy(chid) == 0); /* its connections stay attached */
     check(ConnectServerInfo(0, coid, &info) == coid);
     check(ConnectDetach(coid) == 0 && ConnectDetach(second) == 0 && ConnectDetach(low) == 0);
     fails(ConnectServerInfo(0, coid, &info), EINVAL);
@@ -116,7 +116,8 @@ void limits(void) {
             struct _server_info info;
             check(ConnectServerInfo(0, coids[at], &info) == coids[at] && ConnectDetach(coids[at]) == 0);
         }
-        for (int at = 1; at < 64; at++) check((chids[at] = ChannelCreate(0)) > 0); /* none is left of those refused */
+        /* No channel is left of the calls that were refused. */
+        for (int at = 1; at < 64; at++) check((chids[at] = ChannelCreate(0)) > 0);
         for (int at = 1; at < 64; at++) check(ChannelDestroy(chids[at]) == 0);
     }
     check(ChannelDestroy(chid) == 0);
@@ -148,7 +149,8 @@ static void *destroy(void *chid) {
     return NULL;
 }
 
-/* Where there is room for a channel, there is room for one that is told of ends, also beside a ChannelDestroy. */
+/* If there is room for a channel, there is room for a channel that gets pulses about ends, also during a
+ * ChannelDestroy. */
 void at_the_limit(void) {
     enum { ALL = 64, TOLD = _NTO_CHF_COID_DISCONNECT };
     int chids[ALL], chid;

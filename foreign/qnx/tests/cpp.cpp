@@ -1,4 +1,4 @@
-// A server and a client in C++, with the standard library's threads, beside the headers.
+// A server and a client in C++, with threads of the standard library, and with its headers next to QNX's.
 #include <atomic>
 #include <cerrno>
 #include <chrono>

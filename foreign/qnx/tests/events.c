@@ -4,7 +4,7 @@
 static _Atomic int caught, caught_value, caught_code;
 static _Atomic pthread_t caught_by;
 
-static void catch(int signo, siginfo_t *info, void *context) {
+static void note_signal(int signo, siginfo_t *info, void *context) {
     (void)context;
     atomic_store(&caught_value, info->si_value.sival_int);
     atomic_store(&caught_code, info->si_code);
@@ -15,7 +15,7 @@ static void catch(int signo, siginfo_t *info, void *context) {
 static void catches(int signo) {
     struct sigaction action;
     memset(&action, 0, sizeof action);
-    action.sa_sigaction = catch;
+    action.sa_sigaction = note_signal;
     action.sa_flags = SA_SIGINFO;
     atomic_store(&caught, 0);
     check(sigaction(signo, &action, NULL) == 0);

@@ -1,4 +1,4 @@
-/* What the headers have besides the calls: macros, and small functions of QNX's library. */
+/* The parts of the headers that aren't calls: macros, and small functions of QNX's library. */
 #include "tests.h"
 
 #include <atomic.h>

@@ -1,4 +1,4 @@
-/* Many threads: those that come and go, and clients and servers at once. */
+/* Many threads: threads that come and go, and many clients and servers at once. */
 #include "tests.h"
 
 enum { STOP = 7 };
@@ -7,7 +7,10 @@ static int coid, chid;
 static _Atomic int answered, serving = 1;
 
 static void *serve(void *argument) {
-    union { struct _pulse pulse; uint8_t bytes[32]; } message;
+    union {
+        struct _pulse pulse;
+        uint8_t bytes[32];
+    } message;
     struct _msg_info info;
     check(getprio(0) > 0); /* takes a place */
     while (!atomic_load(&serving)) usleep(100);
@@ -32,7 +35,7 @@ static void *ask(void *number) {
     return NULL;
 }
 
-static int of_each; /* rounds of each client */
+static int of_each; /* the rounds of each client */
 
 static void *ask_often(void *number) {
     for (int round = 0; round < of_each; round++) ask_once((int)(intptr_t)number, round);
@@ -52,7 +55,7 @@ static void open_servers(pthread_t *servers, int count) {
     for (int at = 0; at < count; at++) servers[at] = start(serve, NULL);
 }
 
-/* Five times as many threads as rounds, some at a time; each takes a place, and gives it back. */
+/* Starts five times as many threads as rounds, some at a time. Each takes a place, and gives it back. */
 void lives(void) {
     enum { AT_ONCE = 20 };
     pthread_t servers[2], threads[AT_ONCE];
@@ -71,8 +74,8 @@ static int taken(void) {
     return count;
 }
 
-/* More threads at once than there are places: the others wait. No message is answered before all places are taken, and
- * some have come too late. */
+/* Starts more threads at once than there are places: the others wait. The servers reply to no message before
+ * all places are taken and some threads have come too late. */
 void crowds(void) {
     enum { AT_ONCE = 80 };
     pthread_t servers[8], threads[AT_ONCE];

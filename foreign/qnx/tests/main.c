@@ -3,19 +3,35 @@
 
 int rounds = 1000;
 
-#define TEST(name) {#name, name}
-static const struct { const char *name; void (*run)(void); } tests[] = {
-    TEST(channels), TEST(connections), TEST(flags), TEST(peers), TEST(limits), TEST(disconnects), TEST(sends),
-    TEST(receives), TEST(replies), TEST(reads), TEST(infos), TEST(restarts), TEST(keys), TEST(vectors),
-    TEST(wrong_parts), TEST(not_cancelled), TEST(codes), TEST(values), TEST(notes), TEST(pulse_errors),
-    TEST(pulses_received), TEST(events), TEST(event_errors), TEST(verified), TEST(pulse_timers), TEST(host_timers),
-    TEST(timer_errors), TEST(timer_calls), TEST(clocks), TEST(timeouts), TEST(join_timeouts), TEST(timeout_errors),
-    TEST(priorities), TEST(inherited), TEST(policies), TEST(attributes), TEST(controls), TEST(seats), TEST(reserved),
-    TEST(deaths), TEST(first_calls), TEST(forks), TEST(delays), TEST(sleepers), TEST(interrupted), TEST(handlers),
-    TEST(in_handlers), TEST(many_signals), TEST(cancelled), TEST(many_cancelled), TEST(lives), TEST(crowds),
-    TEST(echo_1_1), TEST(echo_40_8), TEST(headers), TEST(names), TEST(shown), TEST(circles), TEST(quits),
-    TEST(at_the_limit), TEST(many_notes), TEST(set_anew), TEST(file_0), TEST(created), TEST(jumps),
-    TEST(forks_in_handlers), TEST(small_stacks),
+#define TEST(name) \
+    { #name, name }
+static const struct {
+    const char *name;
+    void (*run)(void);
+} tests[] = {
+    TEST(channels),      TEST(connections),    TEST(flags),
+    TEST(peers),         TEST(limits),         TEST(disconnects),
+    TEST(sends),         TEST(receives),       TEST(replies),
+    TEST(reads),         TEST(infos),          TEST(restarts),
+    TEST(keys),          TEST(vectors),        TEST(wrong_parts),
+    TEST(not_cancelled), TEST(codes),          TEST(values),
+    TEST(notes),         TEST(pulse_errors),   TEST(pulses_received),
+    TEST(events),        TEST(event_errors),   TEST(verified),
+    TEST(pulse_timers),  TEST(host_timers),    TEST(timer_errors),
+    TEST(timer_calls),   TEST(clocks),         TEST(timeouts),
+    TEST(join_timeouts), TEST(timeout_errors), TEST(priorities),
+    TEST(inherited),     TEST(policies),       TEST(attributes),
+    TEST(controls),      TEST(seats),          TEST(reserved),
+    TEST(deaths),        TEST(first_calls),    TEST(forks),
+    TEST(delays),        TEST(sleepers),       TEST(interrupted),
+    TEST(handlers),      TEST(in_handlers),    TEST(many_signals),
+    TEST(cancelled),     TEST(many_cancelled), TEST(lives),
+    TEST(crowds),        TEST(echo_1_1),       TEST(echo_40_8),
+    TEST(headers),       TEST(names),          TEST(shown),
+    TEST(circles),       TEST(quits),          TEST(at_the_limit),
+    TEST(many_notes),    TEST(set_anew),       TEST(file_0),
+    TEST(created),       TEST(jumps),          TEST(forks_in_handlers),
+    TEST(small_stacks),
 };
 
 pthread_t start(void *(*work)(void *), void *argument) {
@@ -59,7 +75,7 @@ void begin_send(struct client *client, int coid) {
     memcpy(client->reply, "...............", 16);
     client->coid = coid;
     client->thread = start(send_hello, client);
-    for (;;) { /* its tid is not known here, but it is the only thread that is blocked in a send */
+    for (;;) { /* its tid isn't known here, but only this thread is blocked in a send */
         for (int tid = 1; tid <= 60; tid++) {
             int state = neutrino_state(tid);
             if (state != STATE_SEND && state != STATE_REPLY) continue;

@@ -49,7 +49,7 @@ void receives(void) {
     fails_r(MsgReceive_r(chid + 1, room, 8, NULL), ESRCH);
     begin_send(&client, coid);
     set_timeout(_NTO_TIMEOUT_RECEIVE, 0);
-    fails(MsgReceivePulse(chid, room, 8, NULL), ETIMEDOUT); /* it takes no message */
+    fails(MsgReceivePulse(chid, room, 8, NULL), ETIMEDOUT); /* it doesn't take the message */
     int rcvid = MsgReceive(chid, room, 3, &info);
     check(rcvid > 0 && memcmp(room, "hel...", 6) == 0);
     check(info.pid == getpid() && info.coid == coid && info.chid == chid && info.tid == client.tid);
@@ -126,13 +126,13 @@ void infos(void) {
     struct _pulse pulse;
     check(MsgReceivePulse(chid, &pulse, sizeof pulse, NULL) == 0 && pulse.code == _PULSE_CODE_UNBLOCK);
     rcvid = receive(chid);
-    check(MsgInfo(rcvid, &info) == 0 && info.flags == 0); /* of another message */
+    check(MsgInfo(rcvid, &info) == 0 && info.flags == 0); /* this is another message */
     check(MsgReply(rcvid, 0, NULL, 0) == 0);
     end_send(&client);
     check(ConnectDetach(coid) == 0 && ChannelDestroy(chid) == 0);
 }
 
-/* The client's message comes again, as often as its server says ERESTART. */
+/* The client's message is sent again each time the server replies with ERESTART. */
 void restarts(void) {
     struct client client;
     int chid = ChannelCreate(0), coid = attach(chid);

@@ -1,10 +1,13 @@
-/* Servers that are found by name, with each of the errors. */
+/* Servers that clients find by name, with each of the errors. */
 #include "tests.h"
 
 static int chid_of_names, answer_of_names;
 
 static void *greet(void *argument) {
-    union { struct _pulse hdr; struct _io_connect connect; } message;
+    union {
+        struct _pulse hdr;
+        struct _io_connect connect;
+    } message;
     struct _msg_info info;
     int rcvid = MsgReceive(chid_of_names, &message, sizeof message, &info);
     check(rcvid > 0 && message.hdr.type == _IO_CONNECT && message.hdr.subtype == _IO_CONNECT_OPEN);
@@ -40,7 +43,7 @@ static void many_names(void) {
         snprintf(name, sizeof name, "name%d", count);
         if (!(all[count] = name_attach(NULL, name, 0))) break;
     }
-    check(count == 63 && errno == EBUSY); /* one is attached already, and there are no more channels */
+    check(count == 63 && errno == EBUSY); /* one name is already attached, and there are no more channels */
     for (int at = 0; at < count; at++) check(name_detach(all[at], 0) == 0);
 }
 

@@ -3,7 +3,7 @@
 
 enum { LONGEST = 3000, MOST = 7 };
 
-/* Cuts a buffer into parts, of which some may be empty. */
+/* Cuts a buffer into parts. Some parts may be empty. */
 static size_t cut(iov_t *parts, char *bytes, size_t length, unsigned *seed) {
     size_t count = (size_t)rand_r(seed) % MOST, done = 0;
     for (size_t at = 0; at < count; at++) {
@@ -18,7 +18,7 @@ static size_t cut(iov_t *parts, char *bytes, size_t length, unsigned *seed) {
 
 static int chid;
 
-/* Receives, reads the rest, writes and answers, each by parts. */
+/* Receives, reads the rest, writes and replies, each with parts. */
 static void *serve(void *argument) {
     static char message[LONGEST], answer[LONGEST];
     unsigned seed = 7;
@@ -46,10 +46,14 @@ static void *serve(void *argument) {
 
 static long send_round(int coid, int round, struct iovec *s, size_t sn, struct iovec *r, size_t rn) {
     switch (round % 4) {
-    case 0: return MsgSendv(coid, s, sn, r, rn);
-    case 1: return MsgSendv_r(coid, s, sn, r, rn);
-    case 2: return MsgSendvnc(coid, s, sn, r, rn);
-    default: return MsgSendvnc_r(coid, s, sn, r, rn);
+    case 0:
+        return MsgSendv(coid, s, sn, r, rn);
+    case 1:
+        return MsgSendv_r(coid, s, sn, r, rn);
+    case 2:
+        return MsgSendvnc(coid, s, sn, r, rn);
+    default:
+        return MsgSendvnc_r(coid, s, sn, r, rn);
     }
 }
 
@@ -57,14 +61,22 @@ static long send_one_side(int coid, int round, struct iovec *parts, size_t count
     void *bytes = whole->iov_base;
     size_t length = whole->iov_len;
     switch (round % 8) {
-    case 0: return MsgSendsv(coid, bytes, length, parts, count);
-    case 1: return MsgSendsv_r(coid, bytes, length, parts, count);
-    case 2: return MsgSendsvnc(coid, bytes, length, parts, count);
-    case 3: return MsgSendsvnc_r(coid, bytes, length, parts, count);
-    case 4: return MsgSendvs(coid, parts, count, bytes, length);
-    case 5: return MsgSendvs_r(coid, parts, count, bytes, length);
-    case 6: return MsgSendvsnc(coid, parts, count, bytes, length);
-    default: return MsgSendvsnc_r(coid, parts, count, bytes, length);
+    case 0:
+        return MsgSendsv(coid, bytes, length, parts, count);
+    case 1:
+        return MsgSendsv_r(coid, bytes, length, parts, count);
+    case 2:
+        return MsgSendsvnc(coid, bytes, length, parts, count);
+    case 3:
+        return MsgSendsvnc_r(coid, bytes, length, parts, count);
+    case 4:
+        return MsgSendvs(coid, parts, count, bytes, length);
+    case 5:
+        return MsgSendvs_r(coid, parts, count, bytes, length);
+    case 6:
+        return MsgSendvsnc(coid, parts, count, bytes, length);
+    default:
+        return MsgSendvsnc_r(coid, parts, count, bytes, length);
     }
 }
 

@@ -19,8 +19,16 @@ void codes(void) {
 }
 
 void values(void) {
-    static const intptr_t all[] = {0, 1, -1, INT_MAX, INT_MIN, (intptr_t)INT_MAX + 1, (intptr_t)INT_MIN - 1,
-                                   INTPTR_MAX, INTPTR_MIN, 0x123456789abc};
+    static const intptr_t all[] = {0,
+                                   1,
+                                   -1,
+                                   INT_MAX,
+                                   INT_MIN,
+                                   (intptr_t)INT_MAX + 1,
+                                   (intptr_t)INT_MIN - 1,
+                                   INTPTR_MAX,
+                                   INTPTR_MIN,
+                                   0x123456789abc};
     int chid = ChannelCreate(0), coid = attach(chid);
     for (size_t at = 0; at < sizeof all / sizeof *all; at++) {
         for (int code = -2; code < 128; code += 43) {
@@ -33,7 +41,7 @@ void values(void) {
     check(ConnectDetach(coid) == 0 && ChannelDestroy(chid) == 0);
 }
 
-/* Notes of pulses that a destroyed channel had are free again. */
+/* The notes of a destroyed channel's pulses are free again. */
 void notes(void) {
     for (int turn = 0; turn < 3; turn++) {
         int chids[4], coids[4], spare = ChannelCreate(0), over = attach(spare);
@@ -52,7 +60,7 @@ void notes(void) {
     }
 }
 
-/* The turns of notes begin again after 524,286 of them. */
+/* The turns of notes begin again after 524,286 turns. */
 void many_notes(void) {
     int chid = ChannelCreate(0), coid = attach(chid);
     for (int sent = 0; sent < 530000; sent++) {

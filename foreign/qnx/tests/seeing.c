@@ -1,11 +1,11 @@
-/* What shows a run: neutrino_show, SIGQUIT, and circles of senders. */
+/* The ways to see a run: neutrino_show, SIGQUIT, and reports of circles of senders. */
 #include "tests.h"
 
 #include <sys/wait.h>
 
 static char text[8192];
 
-/* Reads what was written into a pipe, up to a line that has these words. */
+/* Reads from a pipe until the text has these words. Returns 0 if they don't come. */
 static int reads_to(int fd, const char *words) {
     size_t length = 0;
     text[0] = 0;
@@ -45,7 +45,9 @@ void shown(void) {
     check(close(ends[0]) == 0 && close(ends[1]) == 0 && ConnectDetach(coid) == 0 && ChannelDestroy(chid) == 0);
 }
 
-struct pair { int chid, coid; };
+struct pair {
+    int chid, coid;
+};
 
 static void *send_across(void *argument) {
     struct pair *own = argument;
@@ -55,14 +57,15 @@ static void *send_across(void *argument) {
     return NULL;
 }
 
-/* In a child with another standard error, and with what is asked for in its environment. */
+/* Runs work in a child, whose standard error is a pipe and whose environment has the variable asked. Returns
+ * the pipe's end to read from. */
 static int in_a_child(void (*work)(void), const char *asked, pid_t *pid) {
     int ends[2];
     check(pipe(ends) == 0);
     pid_t child = fork();
     if (child == 0) {
         alarm(HANGS);
-        check(signal(SIGQUIT, SIG_DFL) != SIG_ERR); /* shells have their background jobs ignore it */
+        check(signal(SIGQUIT, SIG_DFL) != SIG_ERR); /* shells make their background jobs ignore it */
         check(dup2(ends[1], STDERR_FILENO) == STDERR_FILENO && close(ends[1]) == 0);
         if (asked) check(setenv(asked, "1", 1) == 0);
         work();

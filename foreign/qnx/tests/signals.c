@@ -26,7 +26,8 @@ static void *receive_once(void *argument) {
     return (void *)(intptr_t)(rcvid == -1 ? -errno : rcvid);
 }
 
-/* SEND-, REPLY- and RECEIVE-blocked, with and without SA_RESTART; with the flag UNBLOCK the server decides. */
+/* Signals to SEND-, REPLY- and RECEIVE-blocked threads, with and without SA_RESTART. With the flag UNBLOCK
+ * the server decides. */
 void interrupted(void) {
     int chid = ChannelCreate(0), coid = attach(chid), told = ChannelCreate(_NTO_CHF_UNBLOCK), over = attach(told);
     struct client client;
@@ -49,7 +50,7 @@ void interrupted(void) {
         check(pthread_kill(client.thread, SIGUSR1) == 0);
         check(MsgReceivePulse(told, &pulse, sizeof pulse, NULL) == 0 && pulse.code == _PULSE_CODE_UNBLOCK);
         check(pulse.value.sival_int == rcvid && neutrino_state(client.tid) == STATE_REPLY);
-        check(pthread_kill(client.thread, SIGUSR1) == 0); /* once more changes nothing */
+        check(pthread_kill(client.thread, SIGUSR1) == 0); /* a second signal changes nothing */
         check(MsgReply(rcvid, 3, NULL, 0) == 0);
         end_send(&client);
         check(client.status == 3);
@@ -69,7 +70,7 @@ static void with_info(int signo, siginfo_t *info, void *context) {
     atomic_store(&seen_signo, signo);
 }
 
-/* What the program set is what it gets back. */
+/* The program gets back the handlers and flags that it set. */
 void handlers(void) {
     struct sigaction action, old;
     memset(&action, 0, sizeof action);
@@ -105,8 +106,8 @@ static void send_within(int signo) {
     fails(MsgSendPulse(over_all ^ 1, 20, 8, signo), EBADF);
 }
 
-/* A handler that interrupted a call is refused calls, but its pulse is sent, by the front's own thread with that one's
- * priority. So is the pulse of a handler that interrupted none. */
+/* A handler that interrupted a call is refused calls, but its pulse is sent: by the front's own thread, with
+ * that thread's priority. The pulse of a handler that interrupted no call is sent in the same way. */
 void in_handlers(void) {
     struct _pulse pulse;
     int chid = ChannelCreate(0), other = ChannelCreate(0);
@@ -136,14 +137,14 @@ static void jump_from_within(int signo) {
     raise(SIGUSR2);
 }
 
-/* Sends a pulse from further down the stack than handlers are. */
+/* Sends a pulse from further down the stack than the handlers were. */
 static __attribute__((noinline)) void send_deep(void) {
     volatile char deep[20000];
     deep[0] = 9;
     check(MsgSendPulse(over_all, -1, deep[0], 0) == 0);
 }
 
-/* Leaves handlers by a jump, and sends a pulse, which has the thread's own priority. */
+/* Leaves handlers by a jump, and sends a pulse. The pulse has the thread's own priority. */
 static void send_after_jump(int chid, void (*first)(int), int flags) {
     struct _pulse pulse;
     handle(SIGUSR1, first, flags);
@@ -155,7 +156,7 @@ static void send_after_jump(int chid, void (*first)(int), int flags) {
     check(MsgReceivePulse(chid, &pulse, sizeof pulse, NULL) == 0 && pulse.code == 9 && getprio(0) == 33);
 }
 
-/* A jump within a handler leaves the one that it interrupted, and no other. */
+/* A jump from an inner handler into the handler that it interrupted leaves only the inner handler. */
 static void send_in_outer(int signo) {
     if (!sigsetjmp(left, 1)) raise(SIGUSR2);
     send_within(signo);
@@ -169,7 +170,7 @@ static void in_outer(int chid) {
     check(MsgReceivePulse(chid, &pulse, sizeof pulse, NULL) == 0 && pulse.code == 8 && getprio(0) == 10);
 }
 
-/* A thread is in no handler that it has left by a jump. */
+/* A thread is no longer in a handler that it has left by a jump. */
 void jumps(void) {
     static char other[65536];
     stack_t stack = {.ss_sp = other, .ss_size = sizeof other}, before;
@@ -197,7 +198,7 @@ static void fork_within(int signo) {
     (void)signo;
     pid_t child = fork();
     if (child == 0) {
-        int chid = ChannelCreate(0); /* in a kernel of the child's own, if the handler has interrupted no call */
+        int chid = ChannelCreate(0); /* in a kernel of the child's own, if the handler interrupted no call */
         _exit(chid > 0 || errno == EDEADLK ? 0 : 1);
     }
     check(waitpid(child, &status, 0) == child && WIFEXITED(status) && WEXITSTATUS(status) == 0);
@@ -206,8 +207,8 @@ static void fork_within(int signo) {
     errno = before;
 }
 
-/* A handler may fork wherever it has interrupted the front. The calls here take no memory: the host's fork waits for its
- * allocator. */
+/* A handler may fork wherever it has interrupted the front. The calls here allocate no memory, since the
+ * host's fork waits for the host's allocator. */
 void forks_in_handlers(void) {
     struct _server_info info;
     int chid = ChannelCreate(0), wanted = 20 + rounds / 10;
@@ -234,7 +235,7 @@ static void *receive_often(void *argument) {
     }
 }
 
-/* Each of many signals to a thread that is seen RECEIVE-blocked ends its call. */
+/* Sends many signals to a thread, each when the thread is RECEIVE-blocked. Each ends the thread's call. */
 void many_signals(void) {
     int many = 10 * rounds;
     handle(SIGUSR1, count, 0);
@@ -246,7 +247,7 @@ void many_signals(void) {
         while (neutrino_state(2) != STATE_RECEIVE) sched_yield();
         check(pthread_kill(receiver, SIGUSR1) == 0);
         for (int looks = 0; atomic_load(&ends) < sent; looks++) {
-            check(looks < 100000); /* the signal is lost */
+            check(looks < 100000); /* otherwise the signal is lost */
             looks < 1000 ? sched_yield() : usleep(100);
         }
     }
@@ -320,7 +321,7 @@ static void *receive_forever(void *argument) {
     return NULL;
 }
 
-/* Cancelled wherever it stands in its loop, again and again. */
+/* Cancels threads anywhere in their loop, again and again. */
 void many_cancelled(void) {
     int chid = ChannelCreate(0);
     for (int turn = 0; turn < rounds; turn++) {

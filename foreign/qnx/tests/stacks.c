@@ -25,7 +25,7 @@ static pthread_t start_small(void *(*work)(void *), void *argument) {
     return thread;
 }
 
-/* A client, whose calls its server below answers one by one. */
+/* A client. The server below replies to its calls one by one. */
 static void *send_all(void *coid) {
     char bytes[8] = "message";
     iov_t parts[2] = {{bytes, 4}, {bytes + 4, 4}};
@@ -86,7 +86,10 @@ static void use_threads(int chid) {
     struct sched_param param;
     static char line[4096];
     char text[32] = "name";
-    union { struct _thread_name name; char room[64]; } data = {.name = {.new_name_len = 4}};
+    union {
+        struct _thread_name name;
+        char room[64];
+    } data = {.name = {.new_name_len = 4}};
     int ends[2];
     memcpy(data.name.name_buf, text, 5);
     check(SchedGet(0, 0, &param) != -1 && SchedSet(0, 0, SCHED_RR, &param) == 0 && setprio(0, 10) > 0 && gettid() > 0);
@@ -112,12 +115,13 @@ static void *use_all(void *unused) {
     use_threads(plain);
     name_attach_t *name = name_attach(NULL, "of a small stack", 0);
     check(name && name_detach(name, 0) == 0);
-    check(ChannelDestroy(gone) == 0 && ConnectDetach(over) == 0); /* which the first channel is told of */
+    check(ChannelDestroy(gone) == 0 && ConnectDetach(over) == 0); /* the first channel gets a pulse */
     check(ConnectDetach(coid) == 0 && ChannelDestroy(plain) == 0 && ChannelDestroy(chid) == 0);
     return unused;
 }
 
-/* The first call, which opens the kernel, and all others; then the same with a record. */
+/* Makes the first call, which opens the kernel, and all other calls. Then it makes them again with a
+ * record. */
 void small_stacks(void) {
     for (int records = 0; records < 2; records++) {
         char file[] = "/tmp/small_stacks.XXXXXX";

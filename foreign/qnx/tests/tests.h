@@ -1,4 +1,4 @@
-/* What the tests of the front share. A test ends the program where something is not as it should be. */
+/* Declarations that the tests of the front share. A test ends the program if a check fails. */
 #ifndef TESTS_H
 #define TESTS_H
 
@@ -21,14 +21,19 @@
         } \
     } while (0)
 #define fails(call, error) check((call) == -1 && errno == (error))
-/* The form in _r of a function that returns a number, and of another one. Both leave errno as it is. */
-#define fails_r(call, error) check((errno = 77, (call) == -(error)) && errno == 77)
-#define returns_r(call, error) check((errno = 77, (call) == (error)) && errno == 77)
+/* fails_r is for the form in _r of a function that returns a number, and returns_r for the other forms in _r.
+ * No form in _r changes errno. */
+#define fails_r(call, error) returns_r(call, -(error))
+#define returns_r(call, error) \
+    do { \
+        errno = 77; \
+        check((call) == (error) && errno == 77); \
+    } while (0)
 
 enum { ATTACHED = _NTO_SIDE_CHANNEL };
-enum { HANGS = 300 }; /* seconds, after which a child that hangs is ended; the machine may be busy */
+enum { HANGS = 300 }; /* seconds after which a child that hangs is ended; the machine may be busy */
 
-extern int rounds; /* of long loops */
+extern int rounds; /* the rounds of a long loop */
 
 pthread_t start(void *(*work)(void *), void *argument);
 long result_of(pthread_t thread);
@@ -36,7 +41,7 @@ int attach(int chid);
 void until_state(int tid, int state);
 void set_timeout(int states, uint64_t nanoseconds);
 
-/* A client that sends "hello" over coid, and what came back. */
+/* A client that sends "hello" over coid, and the result of its send. */
 struct client {
     int coid, tid;
     long status;
@@ -44,9 +49,9 @@ struct client {
     char reply[16];
     pthread_t thread;
 };
-void begin_send(struct client *client, int coid); /* returns as the client is SEND- or REPLY-blocked */
+void begin_send(struct client *client, int coid); /* returns when the client is SEND- or REPLY-blocked */
 void end_send(struct client *client);
-int receive(int chid); /* a message into a buffer of its own */
+int receive(int chid); /* receives a message into a buffer of its own */
 
 /* The tests, by file. */
 void channels(void), connections(void), flags(void), peers(void), limits(void), disconnects(void), at_the_limit(void);

@@ -26,7 +26,7 @@ void priorities(void) {
     check(param.sched_curpriority == 44);
     check(SchedSet(getpid(), 1, SCHED_RR, &param) == 0 && SchedGet_r(getpid(), 1, NULL) == SCHED_RR);
     check(SchedSet(0, (int)pthread_self(), SCHED_RR, &param) == 0 && getprio(0) == 44 && setprio(0, 43) == 44);
-    check(result_of(start(answer_priority, NULL)) == 43); /* its creator's */
+    check(result_of(start(answer_priority, NULL)) == 43); /* the creator's priority */
     fails(SchedSet(getpid() + 1, 0, SCHED_RR, &param), ESRCH);
     fails(SchedSet(0, 55, SCHED_RR, &param), ESRCH);
     fails(SchedSet(0, 61, SCHED_RR, &param), ESRCH);
@@ -48,7 +48,7 @@ void priorities(void) {
     check(SchedSet(0, 0, SCHED_FIFO, &param) == 0 && SchedSet(0, 0, SCHED_NOCHANGE, &param) == 0);
     check(pthread_getschedparam(0, &policy, &param) == 0 && policy == SCHED_FIFO && param.sched_priority == 9);
     check(pthread_setschedprio(0, 10) == 0 && getprio(0) == 10 && SchedGet(0, 0, NULL) == SCHED_FIFO);
-    pthread_t thread = start(hold_still, &go); /* which has made no call */
+    pthread_t thread = start(hold_still, &go); /* the thread has made no call */
     check(pthread_setschedprio(thread, 0) == EINVAL && pthread_setschedprio(thread, 256) == EINVAL);
     check(pthread_setschedprio(thread, 66) == 0 && pthread_getschedparam(thread, &policy, &param) == 0);
     check(param.sched_priority == 66);
@@ -60,7 +60,7 @@ void priorities(void) {
 
 static void *send_it(void *coid) { return (void *)MsgSend(*(int *)coid, NULL, 0, NULL, 0); }
 
-/* A receiver has its client's priority, beside its own. */
+/* A receiver has its client's priority, in addition to its own. */
 void inherited(void) {
     struct sched_param param;
     struct _msg_info info;
@@ -82,7 +82,7 @@ static void *answer_tid(void *argument) {
     return (void *)(intptr_t)gettid();
 }
 
-/* The host's functions on a pid, which work on the calling thread. */
+/* The host's functions that take a pid. They work on the calling thread. */
 void policies(void) {
     struct sched_param param = {.sched_priority = 200}, none = {.sched_priority = 0};
     struct _sched_info info;
@@ -110,9 +110,12 @@ void policies(void) {
     fails(sched_getscheduler(getpid() + 1), ESRCH);
 }
 
-/* ThreadCtl: names, and what changes nothing. */
+/* ThreadCtl: names, and the commands that change nothing. */
 void controls(void) {
-    union { struct _thread_name name; char room[sizeof(struct _thread_name) + 32]; } data = {.name = {3, 0, ""}};
+    union {
+        struct _thread_name name;
+        char room[sizeof(struct _thread_name) + 32];
+    } data = {.name = {3, 0, ""}};
     char *text = data.name.name_buf, name[16];
     int mask = 1;
     memcpy(text, "abcdef", 7);
@@ -150,7 +153,8 @@ void attributes(void) {
     check(pthread_attr_setschedparam(&attributes, &param) == EINVAL);
     param.sched_priority = 27;
     check(pthread_attr_setschedparam(&attributes, &param) == 0);
-    check(pthread_create(&thread, &attributes, answer_priority, NULL) == 0 && result_of(thread) == 10); /* inherited */
+    /* The priority is inherited. */
+    check(pthread_create(&thread, &attributes, answer_priority, NULL) == 0 && result_of(thread) == 10);
     check(pthread_attr_setinheritsched(&attributes, PTHREAD_EXPLICIT_SCHED) == 0);
     check(pthread_attr_setschedpolicy(&attributes, SCHED_FIFO) == 0);
     check(pthread_create(&thread, &attributes, answer_priority, NULL) == 0 && result_of(thread) == 27);
@@ -193,21 +197,21 @@ void seats(void) {
     check(result_of(start(answer_priority, NULL)) == 10);
 }
 
-/* Threads that make no call keep nobody from the kernel. */
+/* Threads that make no call don't keep other threads from the kernel. */
 void reserved(void) {
     enum { MANY = 80 };
     _Atomic int go = 0;
     pthread_t threads[MANY];
     check(setprio(0, 33) == 10);
     for (int at = 0; at < MANY; at++) threads[at] = start(hold_still, &go);
-    check(result_of(start(answer_priority, NULL)) == 10); /* it takes a place that was reserved for another thread */
+    check(result_of(start(answer_priority, NULL)) == 10); /* it takes a place reserved for another thread */
     for (int at = 0; at < 70; at++) check(result_of(start(answer_priority, NULL)) == 33);
     atomic_store(&go, 1);
     for (int at = 0; at < MANY; at++) result_of(threads[at]);
     check(setprio(0, 10) == 33);
 }
 
-/* A thread that ends what its creator has of it. */
+/* A thread that frees the memory in which its creator has its id. */
 struct life {
     pthread_t id;
     _Atomic int *ends;
@@ -224,7 +228,8 @@ static void *end_life(void *argument) {
     return NULL;
 }
 
-/* A new thread finds its id where its creator wants it, which nobody writes once its function has begun. */
+/* A new thread finds its id in its creator's place for it. Nothing writes that place once the thread's
+ * function has begun. */
 void created(void) {
     _Atomic int ended = 0;
     for (int turn = 1; turn <= 5 * rounds; turn++) {
@@ -262,7 +267,7 @@ void deaths(void) {
     }
     check((coids[0] == first && coids[1] == second) || (coids[0] == second && coids[1] == first));
     check(ConnectDetach(first) == 0 && ConnectDetach(second) == 0 && ChannelDestroy(other) == 0);
-    for (int at = 0; at < 1030; at++) result_of(start(do_nothing, NULL)); /* more than can wait */
+    for (int at = 0; at < 1030; at++) result_of(start(do_nothing, NULL)); /* more than can be queued */
     for (int at = 0; at < 1024; at++) expect_death(chid, _PULSE_CODE_THREADDEATH, -1);
     check(ChannelDestroy(chid) == 0);
 }
@@ -326,7 +331,7 @@ void first_calls(void) {
     }
 }
 
-/* A child has a kernel of its own, with nothing of its parent's. */
+/* A child has a kernel of its own, which has nothing of its parent's kernel. */
 void forks(void) {
     int chid = ChannelCreate(0), coid = attach(chid);
     name_attach_t *name = name_attach(NULL, "of the child", 0);
@@ -352,7 +357,7 @@ void delays(void) {
     check(clock_gettime(CLOCK_MONOTONIC, &after) == 0);
     check((after.tv_sec - before.tv_sec) * 1000 + (after.tv_nsec - before.tv_nsec) / 1000000 >= 19);
     check(signal(SIGALRM, on_alarm) != SIG_ERR);
-    ualarm(500000, 500000); /* again, in case it sleeps late */
+    ualarm(500000, 500000); /* repeats, in case the thread begins to sleep late */
     unsigned left = delay(60000);
     ualarm(0, 0);
     check(left > 0 && left < 60000 && signal(SIGALRM, SIG_DFL) == on_alarm);
@@ -383,7 +388,8 @@ static pthread_t start_sleeper(void *address) {
     return thread;
 }
 
-/* One signal wakes one thread, the first one, of this address alone; a broadcast wakes all of them. */
+/* A signal wakes one thread, the first that slept on this address. A broadcast wakes all threads of the
+ * address. */
 void sleepers(void) {
     pthread_t first = start_sleeper(&slept_on), elsewhere = start_sleeper(&other), cancelled = start_sleeper(&slept_on);
     check(pthread_sleepon_lock() == 0 && pthread_sleepon_signal(&slept_on) == 0 && pthread_sleepon_unlock() == 0);

@@ -26,7 +26,8 @@ void pulse_timers(void) {
     timer_t once = pulse_timer(coid, 3, 1000000000000, 0);
     check(clock_gettime(CLOCK_MONOTONIC, &now) == 0);
     time = (struct itimerspec){{0, 0}, now};
-    check(timer_settime(once, TIMER_ABSTIME, &time, &left) == 0 && left.it_value.tv_sec > 900); /* over at once */
+    /* The time is already over. */
+    check(timer_settime(once, TIMER_ABSTIME, &time, &left) == 0 && left.it_value.tv_sec > 900);
     do check(MsgReceivePulse(chid, &pulse, sizeof pulse, NULL) == 0); /* a tick may have been under way */
     while (pulse.code == -9);
     check(pulse.code == 3 && timer_delete(once) == 0);
@@ -38,7 +39,7 @@ void pulse_timers(void) {
     check(timer_delete(ticks) == 0);
 }
 
-/* A timer that is set anew begins without overruns, also if it was being sent as it was set. */
+/* A timer that is set again begins without overruns, also if its pulses were being sent when it was set. */
 void set_anew(void) {
     struct itimerspec never = {{0, 0}, {1000, 0}};
     int chid = ChannelCreate(0), coid = attach(chid);
@@ -52,7 +53,7 @@ void set_anew(void) {
     }
 }
 
-/* A timer of pulses whose file is 0, as the program has closed that. */
+/* A timer of pulses whose file is 0, since the program has closed that file. */
 void file_0(void) {
     struct _pulse pulse;
     struct itimerspec left;
@@ -82,7 +83,7 @@ static void expect_expiry(struct sigevent *event, int wanted) {
     check(timer_getoverrun(id) >= 0 && timer_delete(id) == 0);
 }
 
-/* Other events are the host's. */
+/* Timers with other events are the host's. */
 void host_timers(void) {
     struct sigevent event;
     timer_t id;
@@ -122,7 +123,7 @@ void timer_errors(void) {
     fails(timer_create(CLOCK_REALTIME, &event, &all[0]), EAGAIN);
     fails(timer_settime(all[3], 0, &wrong, NULL), EINVAL);
     for (int at = 0; at < 256; at++) check(timer_delete(all[at]) == 0);
-    check(dup(STDERR_FILENO) == lowest && close(lowest) == 0); /* no file is left */
+    check(dup(STDERR_FILENO) == lowest && close(lowest) == 0); /* no file is left open */
     fails(timer_delete(all[5]), EINVAL);
     fails(timer_delete(0), EINVAL);
     fails(timer_delete(257), EINVAL);
@@ -132,7 +133,7 @@ void timer_errors(void) {
     check(ConnectDetach(coid) == 0 && ChannelDestroy(chid) == 0);
 }
 
-/* QNX's own calls, over the same timers. */
+/* QNX's own calls, for the same timers. */
 void timer_calls(void) {
     struct _pulse pulse;
     struct sigevent event;
@@ -233,7 +234,7 @@ static void *wait_for_go(void *argument) {
     return (void *)5;
 }
 
-/* Of pthread_join, with its states alone or with those of messages. */
+/* Timeouts of pthread_join, with only its own state, or with the states of messages too. */
 void join_timeouts(void) {
     _Atomic int go = 0;
     void *value = NULL;
@@ -246,7 +247,7 @@ void join_timeouts(void) {
     set_timeout(_NTO_TIMEOUT_JOIN, 1000000);
     set_timeout(0, 0);
     atomic_store(&go, 1);
-    check(pthread_join(thread, &value) == 0 && value == (void *)5); /* however long it takes */
+    check(pthread_join(thread, &value) == 0 && value == (void *)5); /* without a timeout */
 }
 
 void timeout_errors(void) {

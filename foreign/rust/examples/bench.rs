@@ -1,15 +1,16 @@
 //! usage: bench CLIENTS SERVERS ROUNDS [BUFFER [PAUSE]]
 //!
-//! Each client makes ROUNDS round trips: it sends 4 bytes with room for 8 in the reply, a server receives them into 16
-//! bytes, or into BUFFER, and replies with 4, and the client checks them. It prints the microseconds of a round trip:
-//! the time until all clients have ended, by the number of all round trips. A client waits PAUSE milliseconds before it
-//! sends; if that is less than 0, a server waits so long before it receives.
+//! Each client makes ROUNDS round trips. It sends 4 bytes, with a reply buffer of 8 bytes. A server receives
+//! them into a buffer of 16 bytes, or of BUFFER bytes, and replies with 4 bytes, which the client checks. The
+//! program prints the microseconds of a round trip: the time until all clients have ended, divided by the
+//! number of all round trips. A client waits PAUSE milliseconds before it sends. If PAUSE is less than 0, a
+//! server waits -PAUSE milliseconds before it receives.
 
 use balsaeuchre::{ChannelFlags, ChannelId, Port, Received, Thread, open};
 use std::thread;
 use std::time::{Duration, Instant};
 
-/// Waits so many milliseconds, if they are more than 0.
+/// Waits this number of milliseconds, if it is more than 0.
 fn wait(pause: i64) {
     if let Ok(pause @ 1..) = u64::try_from(pause) {
         thread::sleep(Duration::from_millis(pause));

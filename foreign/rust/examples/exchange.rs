@@ -1,5 +1,5 @@
-//! A server and its clients, by the kernel alone: each of the calls, and its endings.
-//! exchange          prints the endings of a run
+//! A server and its clients with the kernel by itself: each call, with its completions.
+//! exchange          prints the completions of a run
 //! exchange --time N times N rounds of Send, Receive and Reply
 
 use balsaeuchre::kernel::{Call, Ending, Endings, Kernel, Mark};
@@ -60,7 +60,7 @@ fn mark_text(mark: Mark) -> String {
     }
 }
 
-/// Prints the endings of the event, or the error of the call, and returns the mark of the first ending.
+/// Prints the completions of the event, or the error of the call. Returns the result of the first completion.
 fn show(what: &str, event: Result<Endings<'_>, Errno>) -> Option<Mark> {
     let endings = match event {
         Ok(endings) => endings,

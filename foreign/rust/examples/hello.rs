@@ -1,4 +1,4 @@
-//! A server and a client as programs of their own, over a `balsaeuchred`. In three terminals:
+//! A server and a client as two programs, over a `balsaeuchred`. In three terminals:
 //!
 //! ```sh
 //! balsaeuchred "$XDG_RUNTIME_DIR/bus"
@@ -9,7 +9,7 @@
 use balsaeuchre::{ChannelFlags, Port, Pulse, Received, What};
 use std::error::Error;
 
-/// Answers one message.
+/// Replies to messages until the client has ended.
 fn serve(port: &mut Port) -> Result<(), Box<dyn Error>> {
     let channel = port.channel_create(ChannelFlags::DISCONNECT)?;
     port.name_attach(channel, "hello")?;

@@ -1,5 +1,5 @@
-//! Ports in the kernel of a `balsaeuchred`: a socket and a box of shared memory for each. The declarations repeat
-//! `foreign/daemon/wire.h`, and are those of Linux on x86-64.
+//! Ports in the kernel of a `balsaeuchred`: each has a socket and a box of shared memory. The declarations
+//! repeat `foreign/daemon/wire.h`, and hold for Linux on x86-64.
 
 use crate::errors::{CallError, Errno, Result};
 use crate::host::{self, Packet, Part, Rights, connect_to, uninterrupted};
@@ -20,23 +20,27 @@ use std::sync::{Arc, Mutex, MutexGuard, TryLockError, Weak};
 use std::time::Duration;
 use std::{hint, process, ptr, thread};
 
-/// Whether the other end of a socket is closed, which may have sent a packet before.
+/// Returns whether the error means that the other end of a socket is closed. That end may have sent a packet
+/// before.
 fn is_closed(error: &io::Error) -> bool {
     matches!(error.kind(), io::ErrorKind::BrokenPipe | io::ErrorKind::ConnectionReset)
 }
 
-/// Waits for an answer and the two files that come with it, if there are any.
+/// Waits for an answer, and for the two files that come with it, if there are any.
 fn receive(socket: &OwnedFd) -> io::Result<(Answer, Option<[c_int; 2]>)> {
     let (mut answer, mut rights) = (Answer::default(), Rights::default());
     let mut part = Part { iov_base: ptr::from_mut(&mut answer).cast(), iov_len: size_of::<Answer>() };
-    // SAFETY: zeros are a packet.
+    // SAFETY: a packet of zeros is valid.
     let mut packet = Packet { msg_iov: &mut part, msg_iovlen: 1, ..unsafe { zeroed() } };
     packet.msg_control = ptr::from_mut(&mut rights).cast();
     packet.msg_controllen = size_of::<Rights>();
-    // SAFETY: the packet's parts have their lengths, and any bytes are an answer and numbers.
+    // SAFETY:
+    // - The packet has the lengths of its parts.
+    // - Any bytes are a valid answer, and valid numbers.
     let mut once =
         || uninterrupted(|| unsafe { host::recvmsg(socket.as_raw_fd(), &mut packet, host::MSG_CMSG_CLOEXEC) });
-    // The host says once that the other end was closed, and then gives what was sent before.
+    // The host reports once that the other end was closed, and after that returns the packets that were sent
+    // before.
     let came = once().or_else(|error| if is_closed(&error) { once() } else { Err(error) })?;
     if came < size_of::<Answer>() {
         return Err(io::ErrorKind::ConnectionAborted.into());
@@ -47,11 +51,11 @@ fn receive(socket: &OwnedFd) -> io::Result<(Answer, Option<[c_int; 2]>)> {
     Ok((answer, rights.files()))
 }
 
-/// Asks by a packet, and waits. A daemon that refuses a socket closes it after an answer that may be there before the
-/// ask.
+/// Sends an ask as a packet, and waits for the answer. A daemon that refuses a socket sends an answer, maybe
+/// before the ask, and closes the socket.
 fn exchange(socket: &OwnedFd, ask: &Ask) -> io::Result<(Answer, Option<[c_int; 2]>)> {
     let bytes = ptr::from_ref(ask).cast();
-    // SAFETY: an ask with its length.
+    // SAFETY: the pointer is an ask's, and is passed with the ask's length.
     let send = || unsafe { host::send(socket.as_raw_fd(), bytes, size_of::<Ask>(), host::MSG_NOSIGNAL) };
     match uninterrupted(send) {
         Err(error) if !is_closed(&error) => Err(error),
@@ -59,16 +63,18 @@ fn exchange(socket: &OwnedFd, ask: &Ask) -> io::Result<(Answer, Option<[c_int; 2
     }
 }
 
-/// The variable that names the user of a daemon that is neither root's nor one's own.
+/// The variable that names another trusted user of a daemon. Root and the program's own user are always
+/// trusted.
 const USER_VARIABLE: &str = "BALSAEUCHRE_SYSTEM_USER";
 
-/// Whether a daemon of this user is trusted by a program of another user, who may have named one more.
+/// Returns whether a program of the user `own` trusts a daemon of this user. `named` is the user that the
+/// program's environment names, if it names one.
 fn is_trusted(user: u32, own: u32, named: Option<u32>) -> bool {
     user == 0 || user == own || Some(user) == named
 }
 
-/// Connects a socket to the daemon of a path. Another user may have taken the path first, so the daemon has to be of a
-/// user that is trusted.
+/// Connects a socket to the daemon of a path. Another user may have taken the path first, so the daemon's
+/// user has to be trusted.
 fn connect_to_daemon(path: &Path) -> io::Result<OwnedFd> {
     let socket = connect_to(path)?;
     let (user, own) = (host::user_of(&socket)?, host::own_user());
@@ -84,7 +90,8 @@ fn connect_to_daemon(path: &Path) -> io::Result<OwnedFd> {
     Err(io::Error::new(io::ErrorKind::PermissionDenied, told))
 }
 
-/// What the ports of this program in one daemon share: the program ends for the daemon as the socket is closed.
+/// The data that all ports of this program in one daemon share. For the daemon the program ends when this
+/// socket is closed.
 struct Program {
     path: PathBuf,
     socket: OwnedFd,
@@ -95,7 +102,8 @@ struct Program {
 
 static PROGRAMS: Mutex<Vec<Weak<Program>>> = Mutex::new(Vec::new());
 
-/// Takes a lock. ThreadSanitizer sees only the part of it that is inlined here, so under it no thread sleeps for one.
+/// Takes a lock. ThreadSanitizer sees only the part of a lock that is inlined here, so under ThreadSanitizer
+/// no thread sleeps for a lock.
 fn lock<T>(mutex: &Mutex<T>) -> MutexGuard<'_, T> {
     while cfg!(tsan) {
         match mutex.try_lock() {
@@ -107,13 +115,13 @@ fn lock<T>(mutex: &Mutex<T>) -> MutexGuard<'_, T> {
     mutex.lock().unwrap_or_else(|poisoned| poisoned.into_inner())
 }
 
-/// Ends a socket for the daemon, even while a forked child still has it.
+/// Shuts down a socket: for the daemon it ends, even while a forked child still has it.
 fn end(socket: &OwnedFd) {
-    // SAFETY: it takes numbers.
+    // SAFETY: the call takes only numbers.
     unsafe { host::shutdown(socket.as_raw_fd(), host::SHUT_RDWR) };
 }
 
-/// The program of a daemon's path, whose socket is opened if it isn't yet.
+/// Returns the program in the daemon of this path. Opens the program's socket if it isn't open yet.
 fn program(path: &Path) -> io::Result<Arc<Program>> {
     let mut programs = lock(&PROGRAMS);
     programs.retain(|program| program.strong_count() > 0);
@@ -130,7 +138,7 @@ fn program(path: &Path) -> io::Result<Arc<Program>> {
 }
 
 impl Program {
-    /// Returns false in a forked child, which is another program.
+    /// Returns whether this is the program that opened the socket. A forked child is another program.
     fn is_own(&self) -> bool {
         self.pid == process::id()
     }
@@ -144,8 +152,8 @@ impl Drop for Program {
     }
 }
 
-/// A port's use of its program. The last one ends the program's socket while no thread opens another, since the daemon
-/// refuses a second one.
+/// A port's use of its program. The last use ends the program's socket. It does this under the lock of
+/// `PROGRAMS`, while no thread opens another socket, since the daemon refuses a second one.
 struct Use(Option<Arc<Program>>);
 
 impl Deref for Use {
@@ -163,11 +171,11 @@ impl Drop for Use {
     }
 }
 
-/// Maps the box of a thread. A forked child doesn't get it.
+/// Maps the box of a thread. A forked child doesn't get the mapping.
 fn map(file: &OwnedFd) -> io::Result<*mut Shared> {
     const ACCESS: c_int = host::PROT_READ | host::PROT_WRITE;
     let length = size_of::<Shared>();
-    // SAFETY: a new mapping, shared, to be read and written.
+    // SAFETY: the call makes a new mapping, which is shared, and is read and written.
     let at = unsafe { host::mmap(ptr::null_mut(), length, ACCESS, host::MAP_SHARED, file.as_raw_fd(), 0) };
     if at as isize == -1 {
         return Err(io::Error::last_os_error());
@@ -175,7 +183,7 @@ fn map(file: &OwnedFd) -> io::Result<*mut Shared> {
     // SAFETY: the mapping was made here.
     if unsafe { host::madvise(at, length, host::MADV_DONTFORK) } == -1 {
         let error = io::Error::last_os_error();
-        // SAFETY: it is used no more.
+        // SAFETY: nothing uses the mapping after this.
         unsafe { host::munmap(at, length) };
         return Err(error);
     }
@@ -193,22 +201,22 @@ pub(crate) struct Link {
     looks: u32,
 }
 
-// SAFETY: only the thread that has the port uses the box, besides the daemon.
+// SAFETY: only the thread that has the port and the daemon use the box.
 unsafe impl Send for Link {}
 
 impl Link {
-    /// Joins the kernel of a daemon as the next free thread of this program.
+    /// Joins the kernel of a daemon as the thread of this program with the lowest free number.
     pub(crate) fn open(path: &Path) -> io::Result<Link> {
         let path = &absolute(path)?;
         let program = Use(Some(program(path)?));
         let mut taken = lock(&program.taken);
         let tid = (1..=u8::MAX).find(|tid| !taken[usize::from(*tid)]).ok_or(io::ErrorKind::QuotaExceeded)?;
         let socket = connect_to_daemon(path)?;
-        // SAFETY: it takes nothing.
+        // SAFETY: the call takes no pointer.
         let host_tid = unsafe { host::syscall(host::SYS_GETTID) } as i32;
         let ask = Ask { op: wire::OP_THREAD, number: tid.into(), value: 10, pid: host_tid, ..Ask::default() };
         let (_, Some([file, bell])) = exchange(&socket, &ask)? else { return Err(io::ErrorKind::InvalidData.into()) };
-        // SAFETY: both files have come with the answer, and belong to nobody else.
+        // SAFETY: both files have come with the answer, and nothing else owns them.
         let (file, bell) = unsafe { (OwnedFd::from_raw_fd(file), File::from_raw_fd(bell)) };
         let shared = map(&file)?;
         taken[usize::from(tid)] = true;
@@ -224,23 +232,25 @@ impl Link {
         self.program.scoid
     }
 
-    /// What daemon and thread change at any time.
+    /// Returns the words that the daemon and the thread may change at any time: `asked`, `word` and `rings`.
     fn words(&self) -> (&AtomicU32, &AtomicU32, &AtomicU32) {
-        // SAFETY: the mapping lives as long as the link, and these are only used as atomic numbers.
+        // SAFETY:
+        // - The mapping lives as long as the link.
+        // - The words are used only as atomic numbers.
         unsafe { (&(*self.shared).asked, &(*self.shared).back.word, &(*self.shared).back.rings) }
     }
 
-    /// Whether the daemon has ended, or has closed the socket.
+    /// Returns whether the daemon has ended, or has closed the socket.
     fn is_gone(&self) -> bool {
         let mut byte = 0u8;
         let (fd, flags) = (self.socket.as_raw_fd(), host::MSG_PEEK | host::MSG_DONTWAIT);
-        // SAFETY: room for one byte; it is only peeked at, without waiting.
+        // SAFETY: `byte` has room for one byte. The call only peeks at the socket, and doesn't wait.
         let came = uninterrupted(|| unsafe { host::recv(fd, ptr::from_mut(&mut byte).cast(), 1, flags) });
         came.err().is_none_or(|error| error.kind() != io::ErrorKind::WouldBlock)
     }
 
-    /// Waits for the answer. A daemon that has ended wakes nobody, so its socket is looked at now and then. Returns
-    /// false if it is gone.
+    /// Waits for the answer. A daemon that has ended wakes no thread, so its socket is checked from time to
+    /// time. Returns false if the daemon is gone.
     fn wait(&mut self) -> bool {
         let word = ptr::from_ref(self.words().1);
         // SAFETY: as in `words`.
@@ -256,7 +266,7 @@ impl Link {
         while word.load(Ordering::Acquire) != wire::ANSWERED {
             let until = [time.as_secs() as i64, time.subsec_nanos().into()];
             let (at, number, wait) = (word.as_ptr(), host::SYS_FUTEX, host::FUTEX_WAIT);
-            // SAFETY: a futex of the box, and a time.
+            // SAFETY: the word is a futex of the box, and `until` is a time.
             let woken = unsafe { host::syscall(number, at, wait, wire::ASLEEP, until.as_ptr(), ptr::null::<u32>(), 0) };
             if woken == -1 && io::Error::last_os_error().kind() == io::ErrorKind::TimedOut {
                 if self.is_gone() && word.load(Ordering::Acquire) != wire::ANSWERED {
@@ -268,7 +278,7 @@ impl Link {
         true
     }
 
-    /// Asks with these bytes, and waits. Returns the answer and its bytes.
+    /// Puts an ask and these bytes into the box, and waits for the answer. Returns the answer and its bytes.
     fn ask(&mut self, ask: Ask, sent: &[&[u8]]) -> Result<(Answer, &[u8])> {
         const GONE: CallError = CallError::Refused(Errno::Down);
         if !self.program.is_own() {
@@ -278,11 +288,13 @@ impl Link {
         let bytes: *mut u8 = unsafe { &raw mut (*self.shared).back.bytes }.cast();
         let mut at = 0;
         for part in sent {
-            // SAFETY: both parts of a call are at most `MOST` bytes, and between its calls the box is the thread's.
+            // SAFETY:
+            // - A call has at most two parts, of at most `MOST` bytes each, so the box has room for them.
+            // - Between its calls the thread owns the box.
             unsafe { ptr::copy_nonoverlapping(part.as_ptr(), bytes.add(at), part.len()) };
             at += part.len();
         }
-        // SAFETY: as above.
+        // SAFETY: between its calls the thread owns the box.
         unsafe { (&raw mut (*self.shared).ask).write(ask) };
         let (asked, word, rings) = self.words();
         word.store(wire::OPEN, Ordering::Relaxed);
@@ -293,15 +305,15 @@ impl Link {
         if !self.wait() {
             return Err(GONE);
         }
-        // SAFETY: the daemon has answered, and writes no more until the next ask.
+        // SAFETY: the daemon has answered, and writes nothing until the next ask.
         let answer = unsafe { (&raw const (*self.shared).back.answer).read() };
         let length = (answer.length as usize).min(MOST);
-        // SAFETY: as above.
+        // SAFETY: the daemon writes nothing until the next ask, and the box has room for `length` bytes.
         let bytes = unsafe { std::slice::from_raw_parts(bytes, length) };
         if answer.error == 0 { Ok((answer, bytes)) } else { Err(error_of(&answer)) }
     }
 
-    /// Asks for something beside the calls: about a name.
+    /// Asks about a name, which isn't a call of the kernel. Returns the id of the name's channel.
     pub(crate) fn ask_name(&mut self, op: u32, chid: ChannelId, name: &str) -> Result<ChannelId> {
         let ask = Ask { op, number: chid.0 as i32, sent_len: name.len() as u32, ..Ask::default() };
         if name.len() >= wire::NAME_ROOM {
@@ -311,7 +323,7 @@ impl Link {
         Ok(channel_of(answer.info.pid, answer.result))
     }
 
-    /// Makes a call with its buffer, and waits for its end.
+    /// Makes a call with its buffer, and waits for its completion.
     pub(crate) fn make<'a>(
         &mut self,
         time: Option<Duration>,
@@ -326,14 +338,14 @@ impl Link {
         if kind == kind::SHUTDOWN || sent.len() > MOST || is_send && room.len() > MOST {
             return Err(CallError::Refused(Errno::Inval));
         }
-        // No message is longer.
+        // No message is longer than `MOST`.
         let room = &room[..room.len().min(MOST)];
         let receives = kind == kind::RECEIVE || kind == kind::RECEIVE_PULSE;
         let room_len = if receives { lent.len().clamp(size_of::<RawPulse>(), MOST) } else { room.len() };
         self.calls = self.calls.wrapping_add(1).max(1);
         let ask = self.ask_of(request, time, [sent.len(), room_len]);
         let (answer, bytes) = self.ask(ask, &[sent, if is_send { room } else { &[] }])?;
-        // SAFETY: the call's slices are used no more.
+        // SAFETY: nothing uses the call's slices after this.
         let buffer = unsafe { &mut *lent };
         let copied = bytes.len().min(buffer.len());
         if kind != kind::RECEIVE_PULSE && (kind != kind::RECEIVE || answer.result != 0) {
@@ -360,21 +372,22 @@ impl Link {
     }
 }
 
-/// The daemon frees the thread's place as its socket ends. So the number may only be given again after that. In a forked
-/// child there is no box, and the socket is the parent's.
+/// The daemon frees the thread's place when its socket ends, so the number may be used again only after that.
+/// A forked child has no box, and the socket belongs to its parent.
 impl Drop for Link {
     fn drop(&mut self) {
         if !self.program.is_own() {
             return;
         }
-        // SAFETY: the mapping is this link's, and used no more.
+        // SAFETY: the mapping belongs to this link, and nothing uses it after this.
         unsafe { host::munmap(self.shared.cast(), size_of::<Shared>()) };
         end(&self.socket);
         lock(&self.program.taken)[usize::from(self.tid)] = false;
     }
 }
 
-/// A channel's number has its program's pid above it, by which others attach to it.
+/// Returns the id of a channel: its number, with its program's pid in the upper half. Other programs attach
+/// to the channel by this id.
 fn channel_of(pid: i32, number: i64) -> ChannelId {
     ChannelId((pid as u64) << 32 | number as u32 as u64)
 }
@@ -432,7 +445,7 @@ fn state_of(answer: &Answer) -> State {
     State { state, priority: answer.priority }
 }
 
-/// How a call of this kind ended.
+/// Returns the result of a call of this kind.
 fn mark_of(kind: u8, answer: &Answer, bytes: &[u8], copied: usize) -> Mark {
     let (result, id) = (answer.result, answer.result as u64);
     match kind {

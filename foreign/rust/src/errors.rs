@@ -4,33 +4,37 @@ use crate::kernel::{Mark, UNPROVED, VERSION};
 use std::error::Error;
 use std::fmt;
 
-/// The reason why the kernel refused a call, or ended it by force. The first six have the letters of their POSIX names;
-/// which error is returned in which case is the kernel's own choice.
+/// The error with which the kernel refused or cancelled a call. The first six have the names of POSIX errors
+/// without the `E`. Which error a call fails with is this kernel's own choice.
 #[derive(Clone, Copy, Debug, PartialEq, Eq, Hash)]
 pub enum Errno {
-    /// No such thread, channel or held message; ended by a destroyed channel or a shutdown.
+    /// There is no such thread, channel or held message. Or the call was cancelled: its channel was
+    /// destroyed, or the kernel was shut down.
     Srch,
-    /// No such connection, or its channel is gone.
+    /// There is no such connection, or its channel was destroyed. Or the send was cancelled: its connection
+    /// was detached.
     Badf,
-    /// An argument outside its range.
+    /// An argument is out of range, or the caller's process has no such channel to destroy, or no such
+    /// connection to detach.
     Inval,
     /// A limit is reached.
     Again,
-    /// Unblocked.
+    /// The thread was unblocked.
     Intr,
-    /// The thread is blocked, and makes no call.
+    /// The thread is blocked, so it can't make a call.
     Busy,
     /// The allocator refused.
     NoMemory,
     /// The kernel is shut down.
     Down,
-    /// The kernel has made all the 2^40 calls that it can number.
+    /// The kernel has made all the calls that it can number, 2^40.
     Exhausted,
     /// The thread isn't in the roster.
     NoThread,
 }
 
-/// The errors with their numbers in the library, where 10 is of a kernel that keeps a trace, and their messages.
+/// The errors, with their numbers in the library and their messages. The number 10 belongs to a kernel that
+/// keeps its history; the library's kernel doesn't.
 const ERRNOS: [(Errno, u32, &str); 10] = [
     (Errno::Srch, 1, "no such thread, channel or held message"),
     (Errno::Badf, 2, "no such connection"),
@@ -45,7 +49,7 @@ const ERRNOS: [(Errno, u32, &str); 10] = [
 ];
 
 impl Errno {
-    /// Returns the error with this number.
+    /// Returns the error with this number, which must be in `ERRNOS`.
     pub(crate) fn of(number: u32) -> Errno {
         ERRNOS.iter().find(|row| row.1 == number).expect("a number of an error").0
     }
@@ -59,19 +63,21 @@ impl fmt::Display for Errno {
 
 impl Error for Errno {}
 
-/// The reason why a kernel can't be opened.
+/// The error of opening a kernel.
 #[derive(Clone, Copy, Debug, PartialEq, Eq)]
 pub enum OpenError {
-    /// `Inval` if a thread has the priority 0 or its number comes twice, `Again` if there are too many, `NoMemory` if
-    /// the allocator refused.
+    /// The kernel refused. `Inval`: a thread has the priority 0, or its number comes twice. `Again`: there
+    /// are too many threads. `NoMemory`: the allocator refused.
     Refused(Errno),
-    /// The linked library has another version than the package. Both are a hundred times the first number plus the
-    /// second.
-    #[allow(missing_docs)] // a field is what its name says
+    /// The linked library has another version than the package. Both are a hundred times the first number
+    /// plus the second.
+    #[allow(missing_docs)] // the names of the fields say enough
     Version { library: u32, package: u32 },
-    /// The package was built for a proved library and is linked with an unproved one. The library's version is this.
+    /// The package was built for a proved library and is linked with an unproved one. The number is the
+    /// library's version.
     LibraryUnproved(u32),
-    /// The package was built for an unproved library and is linked with a proved one. The library's version is this.
+    /// The package was built for an unproved library and is linked with a proved one. The number is the
+    /// library's version.
     LibraryProved(u32),
 }
 
@@ -107,21 +113,21 @@ impl Error for OpenError {}
 /// The result of a call.
 pub type Result<T> = std::result::Result<T, CallError>;
 
-/// The error of a call.
+/// The error that a call returns in place of its result.
 #[derive(Clone, Copy, Debug, PartialEq, Eq)]
 pub enum CallError {
-    /// The kernel refused the call, which changed nothing.
+    /// The call was refused, and changed nothing.
     Refused(Errno),
-    /// The call was blocked, and was ended by force: `Srch` by `channel_destroy` or `shutdown`, `Badf` by
-    /// `connect_detach`, `Intr` by `unblock`.
+    /// The call was blocked, and was cancelled: with `Srch` by `channel_destroy` or `shutdown`, with `Badf`
+    /// by `connect_detach`, with `Intr` by `unblock`.
     Cancelled(Errno),
     /// The call was blocked for longer than its [`timeout`](crate::Port::timeout).
     TimedOut,
-    /// The server answered the message with this code, which isn't 0, by `msg_error`.
+    /// The server replied to the message with this code, by `msg_error`. It isn't 0.
     Code(i32),
-    /// The allocator refused.
+    /// The allocator refused memory.
     NoMemory,
-    /// The call ended with the result of another kind of call, which a correct kernel never returns.
+    /// The call completed with the result of another kind of call. A correct kernel never returns this.
     Unexpected,
 }
 
@@ -131,23 +137,24 @@ impl fmt::Display for CallError {
             CallError::Refused(errno) => write!(f, "call refused: {errno}"),
             CallError::Cancelled(errno) => write!(f, "call cancelled: {errno}"),
             CallError::TimedOut => f.write_str("call timed out"),
-            CallError::Code(code) => write!(f, "message answered with the code {code}"),
+            CallError::Code(code) => write!(f, "server replied with the error code {code}"),
             CallError::NoMemory => f.write_str("out of memory"),
-            CallError::Unexpected => f.write_str("call ended with the result of another kind of call"),
+            CallError::Unexpected => f.write_str("call completed with the result of another kind of call"),
         }
     }
 }
 
 impl Error for CallError {}
 
-/// The kernel's refusal of a call.
+/// Makes the error of a call that the kernel refused.
 impl From<Errno> for CallError {
     fn from(errno: Errno) -> CallError {
         if errno == Errno::NoMemory { CallError::NoMemory } else { CallError::Refused(errno) }
     }
 }
 
-/// Returns the result of a call that ended with this mark; `waited` says whether the call was blocked.
+/// Returns the value or the error of a completed call. `waited` says whether the call was blocked. If it was,
+/// an error other than `NoMemory` means that the call was cancelled.
 pub(crate) fn outcome(mark: Mark, waited: bool) -> Result<Mark> {
     match mark {
         Mark::Failed(errno) if waited && errno != Errno::NoMemory => Err(CallError::Cancelled(errno)),

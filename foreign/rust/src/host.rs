@@ -1,5 +1,5 @@
-//! The host's calls that the standard library doesn't have: sockets of packets that bring files, and futexes. The
-//! numbers are those of Linux on x86-64, which a test compares with the host's headers.
+//! The host's calls that the standard library doesn't have: sockets of packets that carry files, and futexes.
+//! The numbers are Linux's on x86-64. A test compares them with the host's headers.
 
 use std::env;
 use std::ffi::{CString, OsStr, OsString, c_char, c_int, c_long, c_ulong, c_void};
@@ -68,7 +68,7 @@ pub(crate) struct Packet {
     pub(crate) msg_flags: c_int,
 }
 
-/// `struct cmsghdr`, with the two files behind it.
+/// `struct cmsghdr`, followed by two files.
 #[repr(C)]
 #[derive(Default)]
 pub(crate) struct Rights {
@@ -100,7 +100,7 @@ pub(crate) struct User {
 }
 
 impl Rights {
-    /// Returns the files, if they have come.
+    /// Returns the two files if the packet carried them.
     pub(crate) fn files(&self) -> Option<[c_int; 2]> {
         let has_come =
             self.cmsg_len == size_of::<Rights>() && self.cmsg_level == SOL_SOCKET && self.cmsg_type == SCM_RIGHTS;
@@ -138,7 +138,8 @@ unsafe extern "C" {
     pub(crate) fn syscall(number: c_long, ...) -> c_long;
 }
 
-/// Makes a call of the host, which returns -1 if it fails, and makes it again as often as a signal interrupts it.
+/// Makes a call of the host, and makes it again each time a signal interrupts it. The call returns -1 if it
+/// fails.
 pub(crate) fn uninterrupted(mut call: impl FnMut() -> isize) -> Result<usize> {
     loop {
         if let Ok(result) = usize::try_from(call()) {
@@ -159,21 +160,21 @@ pub(crate) fn connect_to(path: &Path) -> Result<OwnedFd> {
         return Err(ErrorKind::InvalidInput.into());
     }
     address.sun_path[..bytes.len()].copy_from_slice(bytes);
-    // SAFETY: it takes numbers.
+    // SAFETY: the call takes only numbers.
     let fd = unsafe { socket(AF_UNIX, SOCK_SEQPACKET | SOCK_CLOEXEC, 0) };
     if fd == -1 {
         return Err(Error::last_os_error());
     }
-    // SAFETY: the file was opened here, and belongs to nobody else.
+    // SAFETY: the file was opened here, and nothing else owns it.
     let owned = unsafe { OwnedFd::from_raw_fd(fd) };
-    // SAFETY: the address has that length.
+    // SAFETY: the address has the length that is passed.
     uninterrupted(|| unsafe { connect(owned.as_raw_fd(), &address, size_of::<Address>() as u32) } as isize)?;
     Ok(owned)
 }
 
 /// Returns the effective user of this program.
 pub(crate) fn own_user() -> u32 {
-    // SAFETY: it takes nothing.
+    // SAFETY: the function has no parameters.
     unsafe { geteuid() }
 }
 
@@ -181,14 +182,14 @@ pub(crate) fn own_user() -> u32 {
 pub(crate) fn user_of(socket: &OwnedFd) -> Result<u32> {
     let (mut peer, mut length) = (Peer::default(), size_of::<Peer>() as u32);
     let value = (&raw mut peer).cast();
-    // SAFETY: room for the peer, with its length.
+    // SAFETY: `value` has room for a peer, and `length` is the peer's size.
     if unsafe { getsockopt(socket.as_raw_fd(), SOL_SOCKET, SO_PEERCRED, value, &mut length) } == -1 {
         return Err(Error::last_os_error());
     }
     Ok(peer.uid)
 }
 
-/// Returns the user of a name or a number.
+/// Returns the user with this name, or with this number in digits.
 pub(crate) fn user_named(name: &OsStr) -> Option<u32> {
     if let Some(number) = name.to_str().filter(|text| text.bytes().all(|byte| byte.is_ascii_digit())) {
         return number.parse().ok().filter(|user| *user != u32::MAX);
@@ -196,15 +197,18 @@ pub(crate) fn user_named(name: &OsStr) -> Option<u32> {
     let name = CString::new(name.as_bytes()).ok()?;
     let (mut room, mut user, mut found) = (vec![0; 1 << 16], MaybeUninit::uninit(), ptr::null_mut::<User>());
     let at = user.as_mut_ptr();
-    // SAFETY: a name with its zero, and places to write to.
+    // SAFETY:
+    // - The name ends with a zero.
+    // - The other pointers are places to write to.
     let error = unsafe { getpwnam_r(name.as_ptr(), at, room.as_mut_ptr(), room.len(), &mut found) };
-    // SAFETY: if a user was found, it was written.
+    // SAFETY: if a user was found, it was written, and `found` points to it.
     (error == 0 && !found.is_null()).then(|| unsafe { (*found).pw_uid })
 }
 
-/// Returns a variable of the environment, but none of a program that has more rights than who started it.
+/// Returns a variable of the environment if it is set and isn't empty. Returns none if the program has more
+/// rights than the user who started it.
 pub(crate) fn variable(name: &str) -> Option<OsString> {
-    // SAFETY: it takes a number.
+    // SAFETY: the function takes only a number.
     let is_secure = unsafe { getauxval(AT_SECURE) } != 0;
     if is_secure { None } else { env::var_os(name).filter(|value| !value.is_empty()) }
 }

@@ -10,22 +10,22 @@ pub struct ChannelId(pub u64);
 #[derive(Clone, Copy, Debug, PartialEq, Eq, PartialOrd, Ord, Hash)]
 pub struct ConnectionId(pub u64);
 
-/// The id of a message that is received and not answered. A kernel gives each number to only one message.
+/// The receive id of a held message. A kernel gives each number to only one message.
 #[derive(Clone, Copy, Debug, PartialEq, Eq, PartialOrd, Ord, Hash)]
 pub struct ReceiveId(pub u64);
 
-/// The flags with which a server creates a channel. The bits are the kernel's own, not QNX's.
+/// The flags that a server passes to `channel_create`. The bits are the kernel's own, not QNX's.
 #[derive(Clone, Copy, Debug, PartialEq, Eq, Hash, Default)]
 pub struct ChannelFlags(pub u8);
 
 impl ChannelFlags {
     /// No flags.
     pub const NONE: ChannelFlags = ChannelFlags(0);
-    /// A receipt leaves the receiver's priority as it is.
+    /// The priority of a thread doesn't change when it receives from the channel.
     pub const FIXED_PRIORITY: ChannelFlags = ChannelFlags(1);
-    /// The server gets a pulse when a client whose message it holds is to be unblocked.
+    /// The server gets a pulse if a client is to be unblocked while the server holds its message.
     pub const UNBLOCK: ChannelFlags = ChannelFlags(2);
-    /// The server gets a pulse when a process has detached its last connection.
+    /// The server gets a pulse when a process detaches its last connection to the channel.
     pub const DISCONNECT: ChannelFlags = ChannelFlags(4);
 }
 

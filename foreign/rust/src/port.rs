@@ -1,4 +1,4 @@
-//! The port of a thread, by which it calls the kernel, and the waiting of its calls.
+//! The port of a thread, by which it calls the kernel and waits for the completions of its calls.
 
 use crate::daemon::Link;
 use crate::errors::{CallError, Errno, OpenError, Result, outcome};
@@ -15,21 +15,22 @@ use std::sync::Arc;
 use std::thread;
 use std::time::{Duration, Instant};
 
-/// The time until a timeout is tried again that the kernel refused, since a limit is reached or memory is out.
+/// The time after which a timeout is tried again if the kernel refused it. The kernel refuses a timeout if a
+/// limit is reached or there is no memory.
 const AGAIN: Duration = Duration::from_millis(1);
 
 /// A thread's access to a kernel. Its calls sleep while they wait.
 ///
-/// A port may go to another thread of the program between two calls. If a thread panics while it has a port, the kernel
-/// is shut down, so that nobody waits for it for ever. A port that is dropped otherwise makes no more calls, and a
-/// client that waits for its answer goes on waiting.
+/// A port may move to another thread of the program between two calls. If a thread panics while it has a
+/// port, the kernel is shut down, so that no other thread waits for it forever. If a port is dropped without
+/// a panic, its thread makes no more calls, and a client that waits for the thread's reply stays blocked.
 pub struct Port {
     side: Side,
     thread: Thread,
     timeout: Option<Duration>,
 }
 
-/// The kernel of a port: one of this program, or a daemon's.
+/// The kernel of a port: a kernel of this program, or a daemon's.
 enum Side {
     Own(Place),
     Daemon(Link),
@@ -41,16 +42,17 @@ pub(crate) struct Place {
     at: usize,
     thread: Thread,
     looks: u32,
-    /// Of its buffers the longest, and the longest that the kernel gets.
+    /// The length of its longest buffer until now.
     longest: usize,
+    /// The greatest number of bytes that the kernel got of one of its buffers until now.
     seen: usize,
 }
 
 /// Opens a kernel of these threads, and returns a port for each, in the order given.
 ///
-/// Fails with `Inval` if a thread has the priority 0 or its number comes twice, and with `Again` if the threads and the
-/// processes are more than 64 together: for the timeouts of each process the kernel has one more thread, whose number
-/// is the greatest free one up to 255.
+/// Fails with `Inval` if a thread has the priority 0 or its number comes twice, and with `Again` if the
+/// threads and the processes are more than 64 together. For the timeouts of each process the kernel has one
+/// more thread, which gets the greatest free number up to 255.
 pub fn open(threads: &[Thread]) -> std::result::Result<Vec<Port>, OpenError> {
     let shared = Arc::new(Shared::new(threads)?);
     let ports = threads.iter().enumerate();
@@ -79,8 +81,8 @@ impl Port {
         self.thread
     }
 
-    /// Returns the number of the port's process, as others get it in [`Info::process`](crate::Info::process) and
-    /// [`What::Disconnect`](crate::What::Disconnect).
+    /// Returns the number of the port's process, as other threads get it in
+    /// [`Info::process`](crate::Info::process) and [`What::Disconnect`](crate::What::Disconnect).
     #[must_use]
     pub fn process(&self) -> u32 {
         match &self.side {
@@ -89,10 +91,10 @@ impl Port {
         }
     }
 
-    /// Sets the timeout of the next call that can block, `msg_send`, `msg_receive` or `msg_receive_pulse`, counted from
-    /// the time of the call (`TimerTimeout`). When it expires, the call is unblocked, and fails with
-    /// [`CallError::TimedOut`]. If its message is held on a channel with the flag `UNBLOCK`, the server gets a pulse
-    /// instead, and the call goes on waiting for the answer.
+    /// Sets the timeout of the next call that can block: `msg_send`, `msg_receive` or `msg_receive_pulse`
+    /// (`TimerTimeout`). It begins with the call. When it expires, the call is unblocked, and fails with
+    /// [`CallError::TimedOut`]. If the call's message is held on a channel with the flag `UNBLOCK`, the
+    /// server gets a pulse instead, and the call stays blocked until the reply.
     ///
     /// ```
     /// # use balsaeuchre::{CallError, ChannelFlags, Thread, open_array};
@@ -110,20 +112,29 @@ impl Port {
         self
     }
 
-    /// Joins the kernel of the `balsaeuchred` whose socket has this path, as a further thread of this program, with the
-    /// priority 10. Servers and clients may be programs of their own then, in Rust or C: a server gives its channel a
-    /// name ([`name_attach`](Port::name_attach)), by which a client finds it ([`name_find`](Port::name_find)), and a
-    /// channel's number has the pid of its program in its upper half. What differs: [`process`](Port::process) is the
-    /// daemon's number of a program, and [`Thread::process`] is 0; [`sched_set`](Port::sched_set),
-    /// [`unblock`](Port::unblock) and [`state`](Port::state) know only the threads of this program.
-    /// [`shutdown`](Port::shutdown) is refused with `Inval`, and so is a message, a reply or a reply buffer of over
-    /// 1 MiB. A port that is dropped leaves the kernel, and with the last one the program has ended for all others, which
-    /// need not wait for it. A forked child is another program: calls by its parent's ports are refused with `Down`, and
-    /// it has to connect itself.
+    /// Joins the kernel of the `balsaeuchred` whose socket has this path, as a further thread of this
+    /// program, with the priority 10.
     ///
-    /// Fails with the error of the host if there is no daemon or it refuses this program's user, and with its `EAGAIN` if
-    /// all places of programs or threads are taken. The daemon has to be root's, one's own, or of the user that the
-    /// variable `BALSAEUCHRE_SYSTEM_USER` names, by name or number; if not, it fails with `PermissionDenied`.
+    /// Servers and clients may then be separate programs, in Rust or C. A server gives its channel a name by
+    /// [`name_attach`](Port::name_attach), and a client finds it by [`name_find`](Port::name_find). A
+    /// channel's number has the pid of its program in its upper half.
+    ///
+    /// Such a port differs from the ports of [`open`]:
+    ///
+    /// - [`process`](Port::process) is the daemon's number of this program, and [`Thread::process`] is 0.
+    /// - [`sched_set`](Port::sched_set), [`unblock`](Port::unblock) and [`state`](Port::state) know only the
+    ///   threads of this program.
+    /// - [`shutdown`](Port::shutdown) is refused with `Inval`, and so is a message, a reply or a reply buffer
+    ///   of over 1 MiB.
+    /// - A port that is dropped leaves the kernel. After the last port is dropped, the program has ended for
+    ///   all others, which then don't wait for it.
+    /// - A forked child is another program. Calls by its parent's ports are refused with `Down`, and it has
+    ///   to connect itself.
+    ///
+    /// Fails with the error of the host if there is no daemon or it refuses this program's user, and with
+    /// `EAGAIN` if all places of programs or threads are taken. The daemon's user has to be root, the
+    /// program's own user, or the user that the variable `BALSAEUCHRE_SYSTEM_USER` names, by name or number.
+    /// Otherwise it fails with `PermissionDenied`.
     pub fn connect(path: impl AsRef<Path>) -> io::Result<Port> {
         let link = Link::open(path.as_ref())?;
         let thread = Thread::new(link.tid(), 0, 10);
@@ -137,20 +148,22 @@ impl Port {
         }
     }
 
-    /// Gives a channel of this program a name of at most 255 bytes in the daemon's kernel (`name_attach`). Refused with
-    /// `Busy` if the name is taken, and `Inval` if the channel isn't open, is another program's or has a name, or if the
-    /// kernel isn't a daemon's.
+    /// Gives a channel of this program a name of at most 255 bytes in the daemon's kernel (`name_attach`).
+    /// Refused with `Busy` if the name is taken, and `Inval` if the channel isn't open, is another program's
+    /// or already has a name, or if the kernel isn't a daemon's.
     pub fn name_attach(&mut self, chid: ChannelId, name: &str) -> Result<()> {
         self.link()?.ask_name(OP_NAME, chid, name).map(|_| ())
     }
 
-    /// Takes the name of a channel of this program back (`name_detach`). Refused with `Inval` as `name_attach`.
+    /// Removes the name of a channel of this program (`name_detach`). Refused with `Inval` if the channel
+    /// isn't open, is another program's or has no name, or if the kernel isn't a daemon's.
     pub fn name_detach(&mut self, chid: ChannelId) -> Result<()> {
         self.link()?.ask_name(OP_UNNAME, chid, "").map(|_| ())
     }
 
-    /// Returns the channel of any program that has this name, for `connect_attach`. Unlike `name_open` in C it sends the
-    /// server no message. Refused with `Srch` if there is none, and `Inval` if the kernel isn't a daemon's.
+    /// Returns the channel with this name, of any program, for `connect_attach`. Unlike `name_open` in C it
+    /// sends the server no message. Refused with `Srch` if no channel has the name, and `Inval` if the kernel
+    /// isn't a daemon's.
     pub fn name_find(&mut self, name: &str) -> Result<ChannelId> {
         self.link()?.ask_name(OP_FIND, ChannelId(0), name)
     }
@@ -160,7 +173,7 @@ impl Port {
         self.make(false, &mut [], |_| call)
     }
 
-    /// Makes a call with its buffer, and waits for its end. A call that can block takes the timeout.
+    /// Makes a call with its buffer, and waits for its completion. A call that can block uses up the timeout.
     pub(crate) fn make<'a>(
         &mut self,
         can_block: bool,
@@ -184,7 +197,7 @@ impl Port {
 }
 
 impl Place {
-    /// Makes a call with its buffer, and waits for its end.
+    /// Makes a call with its buffer, and waits for its completion.
     fn make<'a>(
         &mut self,
         time: Option<Duration>,
@@ -192,21 +205,25 @@ impl Place {
         call: impl FnOnce(&'a [u8]) -> Call<'a>,
     ) -> Result<Mark> {
         let end = time.and_then(|time| Instant::now().checked_add(time));
-        // SAFETY: this function borrows the buffer, and doesn't use it itself before the call is ended. Before that it
-        // doesn't return, nor unwind: what panics with the lock poisons it, and `wait` aborts.
+        // SAFETY:
+        // - This function borrows the buffer, and doesn't use it itself before the call has completed.
+        // - Before that it doesn't return.
+        // - Before that it doesn't unwind: a panic with the lock poisons the lock, and `wait` aborts.
         let lent = unsafe { Lent::of(buffer) };
-        // SAFETY: the call's slices of the buffer are pointers once it is made, and nothing fills the buffer before that.
+        // SAFETY:
+        // - Once the call is made, its slices of the buffer are only pointers.
+        // - Nothing fills the buffer before that.
         let (request, sent, room) = call(unsafe { lent.bytes() }).raw(self.thread.thread);
         let room: *const [u8] = room;
         self.make_room(lent.len(), room.len());
         // SAFETY: this port is the place's owner, and has no open call.
         unsafe { self.shared.places[self.at].open(lent) };
         let mut locked = self.shared.lock();
-        // SAFETY: the room is of the buffer that is lent.
+        // SAFETY: the room is a part of the buffer that is lent.
         let (own, asleep) = unsafe { locked.make(&self.shared, self.at, (&request, sent, room), lent) };
         drop(locked);
         if own.is_some() {
-            // SAFETY: its call isn't open.
+            // SAFETY: this port is the place's owner, and its call isn't open.
             unsafe { self.shared.places[self.at].lent() };
         }
         asleep.iter().for_each(thread::Thread::unpark);
@@ -216,7 +233,7 @@ impl Place {
         result
     }
 
-    /// Makes room for a buffer, of which the kernel gets `seen` bytes.
+    /// Makes room for a buffer of `length` bytes. The kernel gets its first `seen` bytes.
     fn make_room(&mut self, length: usize, seen: usize) {
         if length > self.longest || seen > self.seen {
             self.shared.promise(length.saturating_sub(self.longest), seen);
@@ -225,7 +242,8 @@ impl Place {
         }
     }
 
-    /// Waits for the end of the open call. If it panics, the program is aborted, since the call's buffer is lent.
+    /// Waits for the completion of the open call. If this function panics, the program is aborted, since the
+    /// call's buffer is lent.
     fn wait(&mut self, mut end: Option<Instant>) -> Result<Mark> {
         let open = Open;
         let place = &self.shared.places[self.at];
@@ -237,15 +255,15 @@ impl Place {
             }
         }
         forget(open);
-        // SAFETY: the call is ended.
+        // SAFETY: this port is the place's owner, and its call has completed.
         match outcome(unsafe { place.take() }, true) {
             Err(CallError::Cancelled(Errno::Intr)) if is_late => Err(CallError::TimedOut),
             result => result,
         }
     }
 
-    /// Unblocks this port's thread, by a call of its process's clock. Returns whether that ended the thread's call, and
-    /// the time to try again if the kernel refused it.
+    /// Unblocks this port's thread, by a call of its process's clock. Returns whether the clock's call
+    /// completed the thread's call, and the time to try again if the kernel refused the clock's call.
     fn time_out(&self) -> (bool, Option<Instant>) {
         let mut locked = self.shared.lock();
         let place = &self.shared.places[self.at];
@@ -254,7 +272,7 @@ impl Place {
         }
         let clock = self.shared.clock_of[usize::from(self.thread.process)];
         let (request, sent, room) = Call::Unblock { thread: self.thread.thread }.raw(clock);
-        // SAFETY: it has no bytes.
+        // SAFETY: the buffer has no bytes.
         let none = unsafe { Lent::of(&mut []) };
         // SAFETY: the room is empty.
         let (own, asleep) = unsafe { locked.make(&self.shared, self.at, (&request, sent, room), none) };
@@ -265,7 +283,7 @@ impl Place {
     }
 }
 
-/// A call that waits. It must not be dropped before it has ended.
+/// A blocked call. It must not be dropped before the call has completed.
 struct Open;
 
 impl Drop for Open {
@@ -274,7 +292,8 @@ impl Drop for Open {
     }
 }
 
-/// A thread that panics shuts the kernel of its program down, so that nobody waits for it for ever.
+/// A thread that panics shuts down the kernel of its program, so that no other thread waits for it forever. A
+/// daemon refuses the shutdown.
 impl Drop for Port {
     fn drop(&mut self) {
         if thread::panicking() {

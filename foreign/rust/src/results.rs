@@ -2,32 +2,32 @@
 
 use crate::ids::{ChannelId, ConnectionId, ReceiveId};
 
-/// A server's answer to a message.
+/// A server's reply to a message (`MsgSend`).
 #[derive(Clone, Copy, Debug, PartialEq, Eq)]
 pub struct Answer<'b> {
     /// The status of the server's reply.
     pub status: i64,
-    /// The number of bytes that the server copied to the front of the buffer.
+    /// The number of bytes that the server copied to the start of the buffer.
     pub copied: usize,
-    /// The whole reply buffer. Behind the reply it is unchanged, except where `msg_write` wrote.
+    /// The whole reply buffer. After the reply it is unchanged, except where `msg_write` wrote.
     pub buffer: &'b [u8],
 }
 
 impl<'b> Answer<'b> {
-    /// Returns the bytes of the reply.
+    /// Returns the bytes of the reply, as many as the buffer had room for.
     #[must_use]
     pub fn bytes(&self) -> &'b [u8] {
         &self.buffer[..self.copied]
     }
 }
 
-/// A received message or pulse.
+/// The message or pulse that was received (`MsgReceive`).
 #[must_use = "the sender of a message waits until it is answered"]
 #[derive(Clone, Copy, Debug, PartialEq, Eq)]
 pub enum Received<'b> {
-    /// A message. Its sender waits until it is answered.
+    /// A message. Its sender is blocked until the reply.
     Message(Request<'b>),
-    /// A pulse. Nobody waits for an answer.
+    /// A pulse. No thread waits for a reply.
     Pulse(Pulse),
 }
 
@@ -35,13 +35,13 @@ pub enum Received<'b> {
 #[must_use = "the sender of a message waits until it is answered"]
 #[derive(Clone, Copy, Debug, PartialEq, Eq)]
 pub struct Request<'b> {
-    /// The id by which it is answered.
+    /// The receive id, by which the server replies to the message.
     pub rcvid: ReceiveId,
-    /// The number of its bytes that were copied to the front of the buffer.
+    /// The number of its bytes that were copied to the start of the buffer.
     pub copied: usize,
-    /// The whole buffer. Behind the message it is unchanged.
+    /// The whole buffer. After the message it is unchanged.
     pub buffer: &'b [u8],
-    /// Its sender, its connection, and its lengths.
+    /// Its sender, its priority, its connection, and its lengths.
     pub info: Info,
 }
 
@@ -53,10 +53,10 @@ impl<'b> Request<'b> {
     }
 }
 
-/// A pulse that was received.
+/// A pulse that was received (`MsgReceivePulse`).
 #[derive(Clone, Copy, Debug, PartialEq, Eq)]
 pub struct Pulse {
-    /// The priority with which it was sent.
+    /// The priority that it was sent with.
     pub priority: u8,
     /// Its content: the code and value of a thread's pulse, or a pulse of the kernel.
     pub what: What,
@@ -78,44 +78,45 @@ pub enum What {
     Disconnect(u32),
 }
 
-/// The sender, the connection and the lengths of a held message.
+/// The data of a held message.
 #[derive(Clone, Copy, Debug, PartialEq, Eq)]
 pub struct Info {
-    /// The sender's process. In a daemon's kernel it is a program's number that C has as `scoid`, which no later program
-    /// gets soon.
+    /// The sender's process. In a daemon's kernel it is the number of a program, which C has as `scoid`. The
+    /// daemon doesn't give the number to a later program soon.
     pub process: u32,
-    /// The sender's thread.
+    /// The thread that sent the message.
     pub thread: u8,
-    /// The priority with which the message was received.
+    /// The priority that the message was received with.
     pub priority: u8,
-    /// The connection over which it was sent.
+    /// The connection over which the message was sent.
     pub connection: ConnectionId,
     /// The number of bytes that were copied when the message was received.
     pub msglen: usize,
-    /// The length of the message, in bytes.
+    /// The length of the message in bytes.
     pub srcmsglen: usize,
-    /// The length of the reply buffer, in bytes.
+    /// The length of the reply buffer in bytes.
     pub dstmsglen: usize,
 }
 
-/// A thread's state, in the words of the QNX Neutrino System Architecture, with the channel on which it is blocked.
+/// A thread's state, named as in the QNX Neutrino System Architecture, with the channel on which it is
+/// blocked.
 #[derive(Clone, Copy, Debug, PartialEq, Eq)]
 pub enum ThreadState {
-    /// It isn't blocked in the kernel.
+    /// The thread isn't blocked in the kernel.
     Ready,
-    /// It sent a message that no server has received.
+    /// The thread sent a message that no server has received.
     SendBlocked(ChannelId),
-    /// It waits for a message or a pulse.
+    /// The thread waits for a message or a pulse.
     ReceiveBlocked(ChannelId),
-    /// Its message was received and isn't answered.
+    /// The thread's message was received and has no reply yet.
     ReplyBlocked(ChannelId),
 }
 
 /// A thread's state and priority.
 #[derive(Clone, Copy, Debug, PartialEq, Eq)]
 pub struct State {
-    /// Whether it is blocked, and on which channel.
+    /// Whether the thread is blocked, in which state and on which channel.
     pub state: ThreadState,
-    /// Its priority.
+    /// The thread's priority.
     pub priority: u8,
 }

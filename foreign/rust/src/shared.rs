@@ -1,4 +1,4 @@
-//! The kernel under its lock. It delivers the endings of a call to their threads.
+//! The kernel under its lock. It delivers the completions of an event to their threads.
 
 use crate::errors::{Errno, OpenError};
 use crate::ids::ReceiveId;
@@ -14,21 +14,21 @@ use std::slice::from_raw_parts_mut;
 use std::sync::{Mutex, MutexGuard, TryLockError};
 use std::{hint, thread};
 
-/// The number of tries for the lock before a thread sleeps. ThreadSanitizer sees only the part of a lock that is
-/// inlined here, so under it no thread sleeps for one.
+/// The number of tries for the lock before a thread sleeps. ThreadSanitizer sees only the part of a lock that
+/// is inlined here, so under ThreadSanitizer no thread sleeps for a lock.
 const LOCK_LOOKS: u32 = if cfg!(tsan) { u32::MAX } else { 100 };
 /// The number of pauses between two tries for the lock.
 const LOCK_PAUSES: u32 = 8;
 
-/// The bytes of a receive's buffer that the kernel gets, and copies. The rest of a longer message is read by a second
-/// call, if the buffer has room for it.
+/// The kernel gets, and copies, at most this many bytes of a receive's buffer. The rest of a longer message
+/// is read by a second call, if the buffer has room for it.
 pub(crate) const FRONT: usize = 1024;
 
-/// The bytes of a place's own room for what its calls bring.
+/// The number of bytes of a place's own room, for the buffers of the completions that its calls cause.
 const NEAR: usize = 2 * FRONT;
-/// The kinds of call that may end more than one call of another thread.
+/// The kinds of calls that may complete the calls of more than one other thread.
 const ENDS_MANY: [u8; 3] = [kind::CHANNEL_DESTROY, kind::SHUTDOWN, kind::CONNECT_DETACH];
-/// The index of no place.
+/// An index that no place has.
 const NONE: u8 = u8::MAX;
 
 /// Two rows, in cache lines of their own.
@@ -38,19 +38,22 @@ struct Rows([RawEnding; 2]);
 
 const _: () = assert!(size_of::<Rows>() == 2 * size_of::<RawEnding>());
 
-/// The buffer of a call, which its thread lends until the call is ended.
+/// The buffer of a call, which its thread lends until the call has completed.
 #[derive(Clone, Copy)]
 pub(crate) struct Lent(*mut [u8]);
 
-// SAFETY: until the call has ended only the thread with the kernel's lock uses the buffer, by the promise of `of`.
+// SAFETY: until the call has completed, only the thread with the kernel's lock uses the buffer. The caller of
+// `of` promises this.
 unsafe impl Send for Lent {}
 
 impl Lent {
     /// Lends a buffer.
     ///
     /// # Safety
-    /// The buffer lives, and nobody else uses it, until its call has ended. If the lock is poisoned before that, the
-    /// call never ends.
+    /// - The buffer lives until its call has completed.
+    /// - Nothing else uses the buffer until then.
+    ///
+    /// If the lock is poisoned before that, the call never completes.
     pub(crate) unsafe fn of(buffer: *mut [u8]) -> Lent {
         Lent(buffer)
     }
@@ -62,45 +65,53 @@ impl Lent {
     /// Returns the content of the buffer.
     ///
     /// # Safety
-    /// The call that lent the buffer hasn't ended. The caller has the kernel's lock, or is the thread that makes the call
-    /// and hasn't opened it yet. The slice isn't used once its call ends, nor after a `fill`.
+    /// - The call that lent the buffer hasn't completed.
+    /// - The caller has the kernel's lock, or it is the thread that makes the call and hasn't opened it yet.
+    /// - The slice isn't used after its call has completed, and not after a `fill`.
     pub(crate) unsafe fn bytes<'a>(self) -> &'a [u8] {
-        // SAFETY: the buffer lives until its call ends, and nobody writes it while the slice is used.
+        // SAFETY:
+        // - The buffer lives until its call completes.
+        // - Nothing writes the buffer while the slice is used.
         unsafe { &*self.0 }
     }
 
     /// Copies bytes of the kernel into the buffer, from `start` on.
     ///
     /// # Safety
-    /// The call that lent the buffer hasn't ended, and the caller has the kernel's lock. No slice of the buffer is used
-    /// any longer.
+    /// - The call that lent the buffer hasn't completed.
+    /// - The caller has the kernel's lock.
+    /// - No slice of the buffer that was made before is used after this.
     unsafe fn fill(self, start: usize, bytes: &[u8]) {
-        // SAFETY: the buffer lives until its call ends, and nobody else uses it.
+        // SAFETY:
+        // - The buffer lives until its call completes.
+        // - Nothing else uses the buffer.
         let buffer = unsafe { &mut *self.0 };
         buffer[start..start + bytes.len()].copy_from_slice(bytes);
     }
 }
 
-/// The state that only the thread with the lock uses. It lies in other cache lines than the lock's word, and its first
-/// one is only read.
+/// The state that only the thread with the lock uses. It is in other cache lines than the lock's word. Its
+/// first cache line is only read.
 #[repr(C, align(64))]
 pub(crate) struct Locked {
     library: Library,
-    /// The rows of a place's calls begin at two of its own. Only calls that end more than two write behind them.
+    /// Each place has two rows of its own, at which the rows of its calls begin. Only calls with more than
+    /// two completions write the rows after these two.
     rows: Box<[Rows]>,
-    /// The rooms of the places.
+    /// The own room of each place.
     near: Box<[[u8; NEAR]]>,
     /// Room for the buffers of all open calls.
     bytes: Box<[u8]>,
-    /// The longest buffer that the kernel gets of a place.
+    /// The greatest number of bytes that the kernel gets of a buffer, over all places.
     most: usize,
-    /// How long the buffers of all places are, the longest of each.
+    /// The sum of the lengths of the longest buffer of each place.
     promised: usize,
 }
 
 type Sleeper = thread::Thread;
 
-/// The threads to wake after the lock is released. There is mostly one at most, so nothing is allocated.
+/// The threads to wake after the lock is released. Usually there is at most one, and then nothing is
+/// allocated.
 #[derive(Default)]
 pub(crate) struct Sleepers {
     first: Option<Sleeper>,
@@ -117,16 +128,17 @@ impl Sleepers {
     }
 }
 
-/// The mark of a call that ended at once, and the threads to wake.
+/// The result of the call if it completed in its own event, and the threads to wake.
 pub(crate) type Made = (Option<Mark>, Sleepers);
 
 /// A kernel with the places of its ports.
 pub(crate) struct Shared {
     lock: Mutex<Locked>,
     pub(crate) places: Box<[Place]>,
-    /// By the number of a thread, the index of its place. A clock has none.
+    /// The index of each thread's place, by the thread's number. A clock has no place.
     place_of: [u8; 256],
-    /// By the number of a process, its clock: the thread that unblocks calls whose timeout expired.
+    /// The number of each process's clock, by the process's number. A clock is the thread that unblocks calls
+    /// whose timeout has expired.
     pub(crate) clock_of: [u8; 256],
     #[cfg(feature = "record")]
     pub(crate) record: Record,
@@ -163,8 +175,8 @@ impl Shared {
         })
     }
 
-    /// Takes the lock. If a thread panicked with it, the program is aborted: that thread's call would never end, nor
-    /// those that it was about to end, and their buffers stay lent.
+    /// Takes the lock. If a thread panicked with the lock, the program is aborted. That thread's call would
+    /// never complete, nor would the calls that it was about to complete, and their buffers stay lent.
     pub(crate) fn lock(&self) -> MutexGuard<'_, Locked> {
         for _ in 0..LOCK_LOOKS {
             match self.lock.try_lock() {
@@ -176,8 +188,8 @@ impl Shared {
         self.lock.lock().unwrap_or_else(|_| abort())
     }
 
-    /// Makes room for a place's buffer that is longer than those before, by `more` bytes; of a buffer the kernel gets at
-    /// most `seen`. Memory is taken and given back without the lock.
+    /// Makes room for a buffer of a place that is `more` bytes longer than the place's longest buffer before.
+    /// The kernel gets at most `seen` bytes of it. Memory is allocated and freed without the lock.
     pub(crate) fn promise(&self, more: usize, seen: usize) {
         let mut locked = self.lock();
         locked.promised += more;
@@ -194,10 +206,11 @@ impl Shared {
 }
 
 impl Locked {
-    /// Makes a call, whose buffer is lent, from a place, and delivers the endings to their threads.
+    /// Makes a call from a place, with a lent buffer, and delivers the completions to their threads.
     ///
     /// # Safety
-    /// The room is empty, or a part of the buffer that is lent: it isn't a slice, as the buffer is filled in here.
+    /// The room is empty, or a part of the buffer that is lent. It isn't a slice, because this function fills
+    /// the buffer.
     pub(crate) unsafe fn make(
         &mut self,
         shared: &Shared,
@@ -208,18 +221,20 @@ impl Locked {
         let (mut own, mut asleep, mut message) = (None, Sleepers::default(), None);
         let mut end = |at: Option<usize>, mark| match at {
             None => own = Some(mark),
-            // SAFETY: the caller has the lock, and the call was open: what it lent was taken from it, once.
+            // SAFETY:
+            // - The caller has the lock.
+            // - The call is open: its lent buffer was taken from it, and only once.
             Some(at) => asleep.add(unsafe { shared.places[at].end(mark) }),
         };
-        // Who sends is no clock.
+        // A sender is never a clock.
         let sender = |thread| &shared.places[usize::from(shared.place_of[usize::from(thread)])];
-        // SAFETY: the call isn't ended, and its buffer isn't filled yet.
+        // SAFETY: the call hasn't completed, and its buffer isn't filled yet.
         #[cfg(feature = "record")]
         shared.record.call(*request, sent, room.len(), unsafe { lent.bytes() });
         let is_near = self.most <= NEAR / 2 && !ENDS_MANY.contains(&request.kind);
         let bytes = if is_near { &mut self.near[place][..] } else { &mut self.bytes };
         let rows = rows_of(&mut self.rows[place..place + ROWS / 2]);
-        // SAFETY: the buffer is lent, and nobody else uses it.
+        // SAFETY: the buffer is lent, and nothing else uses it.
         let endings = match unsafe { self.library.make((request, sent, room), rows, bytes) } {
             Ok(endings) => endings,
             Err(errno) => return (Some(Mark::Failed(errno)), Sleepers::default()),
@@ -229,7 +244,9 @@ impl Locked {
             let at = Some(at).filter(|_| at != usize::from(NONE) && ending.thread != request.thread);
             // SAFETY: this thread has the lock.
             let lent = at.map_or(lent, |at| unsafe { shared.places[at].lent() }.expect("a call that ends was open"));
-            // SAFETY: the call ends below, under the lock, and the kernel has read its room.
+            // SAFETY:
+            // - The call completes below, under the lock.
+            // - The kernel has already read the call's room.
             unsafe { lent.fill(0, ending.buffer) };
             match ending.mark {
                 // At most one message is received in an event.
@@ -245,10 +262,12 @@ impl Locked {
         if let Some((receiver, at, lent, rcvid, mut info)) = message {
             let rest = info.msglen..info.srcmsglen.min(lent.0.len());
             if !rest.is_empty() {
-                // SAFETY: the receiver's call ends below, under the lock, and the buffer isn't filled meanwhile.
+                // SAFETY: the receiver's call completes below, under the lock, and the buffer isn't filled
+                // while the slice is used.
                 #[cfg(feature = "record")]
                 shared.record.read_on(receiver, rcvid, unsafe { &lent.bytes()[rest.clone()] }, rest.start);
-                // SAFETY: as above.
+                // SAFETY: the receiver's call completes below, under the lock, and no slice of the buffer is
+                // used.
                 info.msglen += unsafe { self.read_on(receiver, rcvid, lent, rest) };
             }
             // SAFETY: this thread has the lock.
@@ -258,18 +277,19 @@ impl Locked {
         (own, asleep)
     }
 
-    /// Reads the rest of a message, behind the front of the buffer, by a call of the receiver. Returns the number of
-    /// bytes read: 0 if the kernel is out of memory.
+    /// Reads the rest of a message into the part `rest` of the buffer, by a call of the receiver. Returns the
+    /// number of bytes read, which is 0 if the kernel is out of memory.
     ///
     /// # Safety
-    /// The receiver's call, which lent the buffer, hasn't ended, and no slice of the buffer is used any longer.
+    /// - The receiver's call, which lent the buffer, hasn't completed.
+    /// - No slice of the buffer that was made before is used after this.
     unsafe fn read_on(&mut self, receiver: u8, rcvid: ReceiveId, lent: Lent, rest: Range<usize>) -> usize {
         let start = rest.start;
-        // SAFETY: the slice is used until the kernel has read it, before the buffer is filled.
+        // SAFETY: the slice is used only until the kernel has read it, and the buffer is filled after that.
         let read = Call::Read { rcvid, offset: start, buffer: unsafe { &lent.bytes()[rest] } };
         let (request, sent, room) = read.raw(receiver);
         let rows = rows_of(&mut self.rows[..ROWS / 2]);
-        // SAFETY: the room is a slice.
+        // SAFETY: the room is a slice, and nothing writes it before the call returns.
         let Ok(endings) = (unsafe { self.library.make((&request, sent, room), rows, &mut self.bytes) }) else {
             return 0;
         };

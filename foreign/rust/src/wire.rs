@@ -1,5 +1,6 @@
-//! What a program and a `balsaeuchred` send each other: the declarations of `foreign/daemon/wire.h`, and those of QNX's
-//! headers that it includes, on x86-64. A test compares each of them with the headers.
+//! The packets and the shared memory by which a program and a `balsaeuchred` talk. These are the declarations
+//! of `foreign/daemon/wire.h`, and of QNX's headers that it includes, on x86-64. A test compares each of them
+//! with the headers.
 
 use crate::kernel::RawRequest;
 use std::mem::offset_of;
@@ -7,9 +8,9 @@ use std::sync::atomic::AtomicU32;
 
 /// The version of the wire.
 pub(crate) const VERSION: i32 = 4;
-/// The most bytes of a message, and of a reply.
+/// The greatest number of bytes of a message, and of a reply.
 pub(crate) const MOST: usize = 1 << 20;
-/// Room for a name with the zero at its end.
+/// The number of bytes of room for a name with the zero at its end.
 pub(crate) const NAME_ROOM: usize = 256;
 
 pub(crate) const OP_PROCESS: u32 = 1;
@@ -19,7 +20,7 @@ pub(crate) const OP_NAME: u32 = 5;
 pub(crate) const OP_UNNAME: u32 = 6;
 pub(crate) const OP_FIND: u32 = 7;
 
-/// The values of `Answer::how`: the call was ended by force; the server answered with the error.
+/// The values of `Answer::how`: the call was cancelled; the error is the code of the server's reply.
 pub(crate) const CUT: u8 = 1;
 pub(crate) const CODE: u8 = 2;
 
@@ -32,7 +33,7 @@ pub(crate) const ANSWERED: u32 = 2;
 pub(crate) const STATE_SEND: i64 = 2;
 pub(crate) const STATE_RECEIVE: i64 = 3;
 pub(crate) const STATE_REPLY: i64 = 4;
-/// The states that a timeout ends.
+/// The states in which a timeout ends a call.
 pub(crate) const TIMED_STATES: i32 = 1 << STATE_SEND | 1 << STATE_RECEIVE | 1 << STATE_REPLY;
 
 /// The codes of the kernel's pulses.
@@ -89,7 +90,7 @@ pub(crate) struct Answer {
     pub(crate) info: MsgInfo,
 }
 
-/// `struct wire_box`, which has the back in cache lines of its own.
+/// `struct wire_box`. Its fields from `word` on are in cache lines of their own, here as `Back`.
 #[repr(C)]
 pub(crate) struct Shared {
     pub(crate) asked: AtomicU32,
@@ -106,7 +107,7 @@ pub(crate) struct Back {
     pub(crate) bytes: [u8; 2 * MOST],
 }
 
-/// `struct _pulse`, of which only the offsets are used.
+/// `struct _pulse`. Only its offsets are used.
 #[repr(C)]
 pub(crate) struct RawPulse {
     pub(crate) r#type: u16,

@@ -1,4 +1,4 @@
-//! Each call alone, and each error with which it is refused.
+//! Each call by itself, and each error with which it is refused.
 
 mod common;
 
@@ -108,7 +108,7 @@ fn a_message_that_is_not_held() {
         thread::scope(|scope| {
             scope.spawn(|| client.msg_send(to, b"a", &mut []).unwrap());
             let rcvid = message(server.msg_receive(channel, &mut []));
-            // The channel is another process's.
+            // The channel belongs to another process.
             assert_eq!(other.msg_reply(rcvid, 0, b""), refused(Errno::Srch));
             server.msg_reply(rcvid, 0, b"").unwrap();
             for stale in [rcvid, ReceiveId(rcvid.0 + 1), ReceiveId(0)] {
@@ -228,7 +228,7 @@ fn limits() {
         let to = client.connect_attach(channel).unwrap();
         (0..1024).for_each(|value| client.msg_send_pulse(to, 1, 1, value).unwrap());
         assert_eq!(client.msg_send_pulse(to, 1, 1, 0), refused(Errno::Again));
-        // A pulse would be due.
+        // The detach would have to send a pulse.
         assert_eq!(client.connect_detach(to), refused(Errno::Again));
         made_again(&mut server);
     });
@@ -262,7 +262,8 @@ fn all_calls_are_refused_after_shutdown() {
     });
 }
 
-/// Returns the length of the message with this number, or of its receive buffer: at most `most`, or about 8,000.
+/// Returns the length of the message with this number, or of its receive buffer: at most `most`, or a length
+/// of about 8,000 bytes.
 fn spread(number: usize, most: usize) -> usize {
     match number % 5 {
         0 => number * 7919 % most,

@@ -1,5 +1,5 @@
-//! Ports in a daemon's kernel. Wants BALSAEUCHRE_DAEMON, the path of a `balsaeuchred`; without it nothing is tested.
-//! A test that wants another program runs its own once more, with a role in ROLE.
+//! Ports in a daemon's kernel. The tests need BALSAEUCHRE_DAEMON, the path of a `balsaeuchred`; without it
+//! they test nothing. If a test needs another program, it runs its own program again, with a role in ROLE.
 
 use balsaeuchre::{CallError, ChannelFlags, ChannelId, Errno, Port, Pulse, Received, State, ThreadState, What};
 use std::io::ErrorKind;
@@ -10,7 +10,7 @@ use std::sync::atomic::{AtomicBool, AtomicUsize, Ordering};
 use std::time::{Duration, Instant};
 use std::{env, fs, thread};
 
-/// A daemon of its own, which ends with this value.
+/// A daemon for one test. It ends when this value is dropped.
 struct Daemon {
     process: Child,
     path: PathBuf,
@@ -33,7 +33,7 @@ impl Daemon {
     fn connect(&self) -> Port {
         loop {
             match Port::connect(&self.path) {
-                // It is about to listen, or has a place in a moment.
+                // The daemon doesn't listen yet, or a place of the daemon isn't free yet.
                 Err(error) if matches!(error.kind(), ErrorKind::ConnectionRefused | ErrorKind::WouldBlock) => {
                     thread::sleep(Duration::from_millis(5));
                 }
@@ -42,12 +42,12 @@ impl Daemon {
         }
     }
 
-    /// Runs this test once more, as another program.
+    /// Runs this test again, as another program.
     fn spawn(&self, test: &str, role: &str) -> Child {
         self.program(test, role).spawn().unwrap()
     }
 
-    /// The command that runs a test once more, as another program.
+    /// Returns the command that runs a test again, as another program.
     fn program(&self, test: &str, role: &str) -> Command {
         let mut command = Command::new(env::current_exe().unwrap());
         command.args(["--exact", test, "--nocapture"]).env("ROLE", role).env("SOCKET", &self.path);
@@ -64,7 +64,7 @@ impl Drop for Daemon {
     }
 }
 
-/// The port of a program that a test has spawned.
+/// Returns the role and the port of this program, if a test has spawned it.
 fn spawned() -> Option<(String, Port)> {
     Some((env::var("ROLE").ok()?, Port::connect(env::var_os("SOCKET")?).unwrap()))
 }
@@ -207,7 +207,7 @@ fn places_and_ends() {
     assert!(Port::connect("/none/such").is_err());
 }
 
-/// Opens ports in several threads at once, and drops them. Returns each error.
+/// Opens ports in several threads at once, and drops them. Returns all errors.
 fn come_and_go(daemon: &Daemon, rounds: usize) -> Vec<std::io::Error> {
     let open = || {
         let mut errors = Vec::new();
@@ -228,7 +228,7 @@ fn come_and_go(daemon: &Daemon, rounds: usize) -> Vec<std::io::Error> {
     })
 }
 
-/// A thread's number is given again once the daemon is without the thread that had it.
+/// A thread's number is used again only after the daemon has removed the thread that had it.
 #[test]
 fn ports_come_and_go() {
     let Some(daemon) = Daemon::start("ports") else { return };
@@ -272,7 +272,9 @@ fn signals_while_a_thread_joins() {
     let Some(daemon) = Daemon::start("signals") else { return };
     let _first = daemon.connect();
     let pid = daemon.process.id() as i32;
-    // SAFETY: the handler adds to a number, and the signal and the threads that get it are this test's.
+    // SAFETY:
+    // - The handler only adds to a number.
+    // - Only this test uses the signal, and only threads of this test get it.
     unsafe {
         signal(SIGUSR1, count);
         siginterrupt(SIGUSR1, 1);
@@ -281,7 +283,7 @@ fn signals_while_a_thread_joins() {
     let (joining, is_over) = (AtomicUsize::new(0), AtomicBool::new(false));
     thread::scope(|scope| {
         let joined = scope.spawn(|| {
-            // SAFETY: it takes nothing.
+            // SAFETY: the function has no parameters.
             joining.store(unsafe { pthread_self() }, Ordering::SeqCst);
             let port = Port::connect(&daemon.path);
             is_over.store(true, Ordering::SeqCst);
@@ -297,14 +299,15 @@ fn signals_while_a_thread_joins() {
         }
         assert!(SIGNALS.load(Ordering::SeqCst) > 0);
         let ended_early = is_over.load(Ordering::SeqCst);
-        // SAFETY: it takes numbers.
+        // SAFETY: the call takes only numbers.
         unsafe { kill(pid, SIGCONT) };
         joined.join().unwrap().unwrap();
         assert!(!ended_early);
     });
 }
 
-/// Returns the number of the first thing that is wrong in a forked child, or 0. It drops its parent's ports.
+/// Returns the number of the first check that fails in a forked child, or 0. The child drops its parent's
+/// ports.
 fn in_a_child(mut ports: [Port; 2], path: &str) -> i32 {
     let maps = fs::read_to_string("/proc/self/maps").unwrap_or_default();
     if maps.is_empty() || maps.contains("memfd:balsaeuchre") {
@@ -321,7 +324,8 @@ fn in_a_child(mut ports: [Port; 2], path: &str) -> i32 {
     0
 }
 
-/// A forked child has no box of its parent, makes no call by its parent's ports, and ends none of them.
+/// A forked child has no box of its parent, can't make calls by its parent's ports, and ends none of these
+/// ports.
 #[test]
 fn a_forked_child() {
     if let Some((_, port)) = spawned() {
@@ -330,11 +334,11 @@ fn a_forked_child() {
         // SAFETY: no other thread of this program makes calls, and the child ends by `_exit`.
         let child = unsafe { fork() };
         if child == 0 {
-            // SAFETY: it takes a number.
+            // SAFETY: the call takes only a number.
             unsafe { _exit(in_a_child(ports, &path)) };
         }
         let mut status = 0;
-        // SAFETY: a place for the status.
+        // SAFETY: `status` is a place for the status.
         assert_eq!(unsafe { waitpid(child, &mut status, 0) }, child);
         assert_eq!(status, 0, "the number of what is wrong is {}", status >> 8);
         for mut port in ports {
@@ -347,7 +351,7 @@ fn a_forked_child() {
     assert!(daemon.spawn("a_forked_child", "parent").wait().unwrap().success());
 }
 
-/// A path that isn't absolute is of the folder in which the program is at the time of the connect.
+/// A relative path is relative to the program's current folder at the time of the connect.
 #[test]
 fn the_same_name_in_two_folders() {
     if let Ok(folders) = env::var("FOLDERS") {
@@ -377,7 +381,8 @@ fn the_same_name_in_two_folders() {
     folders.iter().for_each(|folder| fs::remove_dir_all(folder).unwrap());
 }
 
-/// Bytes of over 1 MiB are refused, and so is such a reply buffer. Other buffers may be longer, as no message is.
+/// Messages, replies and writes of over 1 MiB are refused, and so is a reply buffer of over 1 MiB. Other
+/// buffers may be longer, although no message is.
 #[test]
 fn over_a_mebibyte() {
     const MOST: usize = 1 << 20;
@@ -408,7 +413,8 @@ fn over_a_mebibyte() {
     });
 }
 
-/// A daemon of another user is refused, unless the environment names that user. Only root can start one.
+/// A daemon of another user is refused, unless the environment names that user. Only root can start
+/// such a daemon.
 #[test]
 fn a_daemon_of_another_user() {
     const NOBODY: u32 = 65534;
@@ -418,12 +424,13 @@ fn a_daemon_of_another_user() {
         return;
     }
     let Some(program) = env::var_os("BALSAEUCHRE_DAEMON") else { return };
-    // SAFETY: it takes nothing.
+    // SAFETY: the function has no parameters.
     if unsafe { geteuid() } != 0 {
         return;
     }
-    // The other user may not enter the folder that the program is in. Another program copies it: a file that this one
-    // writes can't be run while a child that another test forks still has it open.
+    // The other user may lack the right to enter the folder of the daemon's program, so the test runs a copy.
+    // Another program makes the copy: a file that this program writes can't be run while a child that another
+    // test forks has it open.
     let copy = env::temp_dir().join(format!("balsaeuchred-{}", std::process::id()));
     assert!(Command::new("install").args(["-m", "755"]).arg(program).arg(&copy).status().unwrap().success());
     let mut command = Command::new(&copy);

@@ -1,4 +1,4 @@
-//! Clients that send and servers that answer, by many threads.
+//! Clients that send and servers that reply, in many threads.
 
 mod common;
 
@@ -11,7 +11,7 @@ use std::time::Duration;
 
 /// The pulse that ends a server.
 const STOP: i8 = 7;
-/// The code with which a server answers a client that is to be unblocked.
+/// The code with which a server replies to a client that is to be unblocked.
 const LATE: i32 = -9;
 
 fn answer(port: &mut Port, to: ConnectionId, request: Request<'_>) {
@@ -44,7 +44,8 @@ fn serve(port: &mut Port, channel: ChannelId, to: ConnectionId) -> usize {
     }
 }
 
-/// Sends `rounds` times, each time with another timeout if `times` is set. Returns the number of sends that timed out.
+/// Sends `rounds` times, each time with a different timeout if `times` is set. Returns the number of sends
+/// that timed out.
 fn send(port: &mut Port, to: ConnectionId, rounds: usize, times: bool) -> usize {
     let me = port.thread().thread;
     let mut late = 0;
@@ -93,7 +94,7 @@ fn echo(clients: usize, servers: usize, rounds: usize, times: bool) {
     made_again(&mut last);
 }
 
-/// Returns the number of round trips of a test, of all clients together.
+/// Returns the number of round trips of a test, summed over all clients.
 fn rounds() -> usize {
     std::env::var("ROUNDS").map_or(4000, |word| word.parse().unwrap())
 }

@@ -45,9 +45,9 @@ fn what_errors_say() {
     assert_eq!(said(&CallError::Refused(Errno::Srch)), "call refused: no such thread, channel or held message");
     assert_eq!(said(&CallError::Cancelled(Errno::Badf)), "call cancelled: no such connection");
     assert_eq!(said(&CallError::TimedOut), "call timed out");
-    assert_eq!(said(&CallError::Code(-4)), "message answered with the code -4");
+    assert_eq!(said(&CallError::Code(-4)), "server replied with the error code -4");
     assert_eq!(said(&CallError::NoMemory), "out of memory");
-    assert_eq!(said(&CallError::Unexpected), "call ended with the result of another kind of call");
+    assert_eq!(said(&CallError::Unexpected), "call completed with the result of another kind of call");
     assert_eq!(said(&OpenError::Refused(Errno::Again)), "roster refused: limit reached");
     let all = [
         (Errno::Srch, "no such thread, channel or held message"),

@@ -1,5 +1,5 @@
-//! Threads that make calls at random, of every kind, until one of them shuts the kernel down. With the feature `record`
-//! one thread makes all these calls again.
+//! Threads that make random calls of every kind, until one of the threads shuts the kernel down. With the
+//! feature `record`, one thread makes all these calls again.
 
 mod common;
 
@@ -19,7 +19,7 @@ struct Known {
     messages: [AtomicU64; 6],
 }
 
-/// Random numbers, from a seed.
+/// A generator of random numbers; its state begins as the seed.
 struct Random(u64);
 
 impl Random {
@@ -103,8 +103,8 @@ fn call(port: &mut Port, random: &mut Random, known: &Known) -> Result<(), CallE
     Ok(())
 }
 
-/// Ends calls that threads of the port's process are blocked in, and answers messages that it holds, at random, so that
-/// the others go on.
+/// Unblocks a random thread, and replies to a random message with a code, so that the other threads continue.
+/// The calls affect only threads of the port's process, and messages that it holds.
 fn help(port: &mut Port, random: &mut Random, known: &Known) {
     let _ = port.unblock(random.below(6) as u8);
     let _ = port.msg_error(ReceiveId(random.known(&known.messages)), 1);

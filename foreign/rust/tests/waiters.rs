@@ -1,4 +1,4 @@
-//! Calls that wait and are ended by force, and ports whose threads change or panic.
+//! Calls that wait and are cancelled, and ports whose threads change or panic.
 
 mod common;
 
@@ -86,7 +86,7 @@ fn the_server_is_told_of_a_timeout() {
             });
             let rcvid = message(server.msg_receive(channel, &mut []));
             assert_eq!(server.msg_receive_pulse(channel), Ok(Pulse { priority: 20, what: What::Unblock(rcvid) }));
-            // The client stays until it is answered.
+            // The client stays blocked until the reply.
             thread::sleep(5 * MILLI);
             assert_eq!(server.state(2).map(|state| state.state), Ok(ThreadState::ReplyBlocked(channel)));
             server.msg_reply(rcvid, 6, b"").unwrap();
@@ -109,7 +109,7 @@ fn a_timeout_is_tried_again() {
             until(&mut server, 2, ThreadState::SendBlocked(channel));
             let rcvid = message(server.msg_receive(channel, &mut []));
             thread::sleep(1100 * MILLI);
-            // There is room again, as the server takes the others.
+            // There is room again when the server has received other pulses.
             while server.msg_receive_pulse(channel).unwrap().what != What::Unblock(rcvid) {}
             server.msg_error(rcvid, 5).unwrap();
             assert_eq!(sent.join().unwrap(), Some(CallError::Code(5)));
@@ -163,7 +163,7 @@ fn detached_under() {
     });
 }
 
-/// Returns the ports of this many servers and clients, and one more of the servers' process.
+/// Returns the ports of this many servers and clients, and one more port of the servers' process.
 fn many(servers: usize, clients: usize) -> (Vec<Port>, Vec<Port>, Port) {
     let thread = |at: usize| Thread::new(at as u8 + 1, if at <= servers { SERVER } else { CLIENT }, 9);
     let threads: Vec<Thread> = (0..=servers + clients).map(thread).collect();
@@ -173,7 +173,7 @@ fn many(servers: usize, clients: usize) -> (Vec<Port>, Vec<Port>, Port) {
     (ports, clients, last)
 }
 
-/// Ends calls in each state in which a call waits, by `end`.
+/// Cancels calls in each state in which a call waits, by `end`.
 fn ends_all(end: impl FnOnce(&mut Port, balsaeuchre::ChannelId)) {
     let (servers, mut clients, mut last) = many(3, 6);
     let flags = ChannelFlags::UNBLOCK | ChannelFlags::DISCONNECT;
@@ -254,16 +254,16 @@ fn a_port_goes_to_another_thread() {
     });
 }
 
-/// A port is passed on at once, while the thread that ended its call may still be about to wake the thread that had it.
-/// So these threads often wake for no reason.
+/// A port is passed on at once. At that time the thread that completed the port's call may still be about to
+/// wake the thread that had the port. So these threads often wake for no reason.
 #[test]
 fn a_port_is_passed_on_while_it_is_woken() {
     within(|| {
         let [mut server, mut client, _] = few();
         let channel = server.channel_create(ChannelFlags::NONE).unwrap();
         let to = client.connect_attach(channel).unwrap();
-        // The two threads take turns. ThreadSanitizer sees only the part of a lock that is inlined here, so nobody
-        // sleeps for one.
+        // The two threads take turns. ThreadSanitizer sees only the part of a lock that is inlined here, so
+        // no thread sleeps for a lock.
         let (client, turn) = (Mutex::new(client), AtomicUsize::new(0));
         let send = |odd: usize| {
             for round in 0..150 {

@@ -1,8 +1,9 @@
-/* A server of two threads and its clients as one writes them for QNX: accounts, and pulses for who watches one.
+/* A server with two threads and its clients, as one writes them for QNX. The server keeps accounts, and sends
+ * pulses to a client that watches an account.
  *
- * Three tellers book on one account at once, each two hundred times. An auditor watches the account: it gives the
- * bank its own channel, and is told by a pulse of each round thousand that the balance passes. What QNX does not
- * have: the kernel is opened, and each thread joins it and leaves.
+ * Three tellers book on one account at the same time, 200 times each. An auditor watches the account: it
+ * gives the bank its own channel, and gets a pulse for each multiple of 1,000 that the balance passes. Two
+ * things differ from QNX: the kernel is opened, and each thread joins it and leaves.
  */
 #include <errno.h>
 #include <pthread.h>
@@ -11,20 +12,30 @@
 #include <string.h>
 #include <sys/neutrino.h>
 
-enum { BANK = 1, AUDITOR, MANAGER, TELLERS = 10, SECOND = 20 }; /* threads; the first four are processes too */
+/* Threads. The first four are processes, too. */
+enum { BANK = 1, AUDITOR, MANAGER, TELLERS = 10, SECOND = 20 };
 enum { NTELLERS = 3, NSERVERS = 2, BOOKINGS = 200, AMOUNT = 10, ACCOUNTS = 4 };
 enum { MSG_BOOK = 0x201, MSG_BALANCE, MSG_WATCH };
 enum { CODE_PASSED = _PULSE_CODE_MINAVAIL, CODE_STOP };
 
-typedef struct { uint16_t type, account; int32_t amount, chid; } bank_request_t;
-typedef union { struct _pulse pulse; bank_request_t request; } bank_msg_t;
-typedef struct { int32_t balance; int watcher; } account_t;
+typedef struct {
+    uint16_t type, account;
+    int32_t amount, chid;
+} bank_request_t;
+typedef union {
+    struct _pulse pulse;
+    bank_request_t request;
+} bank_msg_t;
+typedef struct {
+    int32_t balance;
+    int watcher;
+} account_t;
 
 static neutrino *kernel;
 static int bank_chid;
 static account_t accounts[ACCOUNTS];
 static int disconnected;
-static pthread_mutex_t bank_mutex = PTHREAD_MUTEX_INITIALIZER; /* of both */
+static pthread_mutex_t bank_mutex = PTHREAD_MUTEX_INITIALIZER; /* of accounts and disconnected */
 static pthread_barrier_t watching, attached;
 
 static int attach(int tid) {
@@ -58,10 +69,14 @@ static int handle_request(int rcvid, const bank_request_t *msg, const struct _ms
     if ((size_t)info->msglen < sizeof *msg) return EBADMSG;
     if (msg->account >= ACCOUNTS) return ENOENT;
     switch (msg->type) {
-    case MSG_BOOK: return book(rcvid, &accounts[msg->account], msg->amount);
-    case MSG_BALANCE: return book(rcvid, &accounts[msg->account], 0);
-    case MSG_WATCH: return watch(rcvid, &accounts[msg->account], info->pid, msg->chid);
-    default: return ENOSYS;
+    case MSG_BOOK:
+        return book(rcvid, &accounts[msg->account], msg->amount);
+    case MSG_BALANCE:
+        return book(rcvid, &accounts[msg->account], 0);
+    case MSG_WATCH:
+        return watch(rcvid, &accounts[msg->account], info->pid, msg->chid);
+    default:
+        return ENOSYS;
     }
 }
 

@@ -1,8 +1,9 @@
 /* A device driver as one writes it for QNX: a resource manager's loop.
  *
- * The device holds one line, which one client writes and another reads. A read of an empty device waits in the
- * driver, REPLY-blocked, until a line comes; a client that is tired of waiting is unblocked by a pulse. Pulses tell
- * the driver of interrupts. What QNX does not have: the kernel is opened, and each thread joins it and leaves.
+ * The device holds one line, which one client writes and another reads. A client that reads an empty device
+ * is REPLY-blocked until a line comes. If the client is tired of waiting, a pulse asks the driver to unblock
+ * it. The driver also gets a pulse for each interrupt. Two things differ from QNX: the kernel is opened, and
+ * each thread joins it and leaves.
  */
 #include <errno.h>
 #include <pthread.h>
@@ -16,14 +17,26 @@ enum { IO_READ = 0x101, IO_WRITE, IO_STAT };
 enum { PULSE_INTERRUPT = _PULSE_CODE_MINAVAIL, PULSE_QUIT };
 enum { MAX_WAITING = 8, LINE = 32 };
 
-typedef struct { uint16_t type, nbytes; } io_hdr_t;
-typedef struct { io_hdr_t hdr; char data[2 * LINE]; } io_write_t;
-typedef union { uint16_t type; struct _pulse pulse; io_hdr_t read; io_write_t write; } io_msg_t;
-typedef struct { uint32_t waiting, interrupts; } io_stat_t;
+typedef struct {
+    uint16_t type, nbytes;
+} io_hdr_t;
+typedef struct {
+    io_hdr_t hdr;
+    char data[2 * LINE];
+} io_write_t;
+typedef union {
+    uint16_t type;
+    struct _pulse pulse;
+    io_hdr_t read;
+    io_write_t write;
+} io_msg_t;
+typedef struct {
+    uint32_t waiting, interrupts;
+} io_stat_t;
 
 typedef struct {
     char line[LINE];
-    size_t length; /* 0: there is no line */
+    size_t length;                      /* 0: there is no line */
     int waiting[MAX_WAITING], nwaiting; /* the reads that wait, by their rcvids */
     uint32_t interrupts;
 } device_t;
@@ -77,19 +90,32 @@ static void io_unblock(device_t *dev, int rcvid) {
 static void handle_message(device_t *dev, int rcvid, const io_msg_t *msg, const struct _msg_info *info) {
     int error = ENOSYS;
     switch (msg->type) {
-    case IO_READ: error = io_read(dev, rcvid); break;
-    case IO_WRITE: error = io_write(dev, rcvid, &msg->write, info); break;
-    case IO_STAT: error = io_stat(dev, rcvid); break;
+    case IO_READ:
+        error = io_read(dev, rcvid);
+        break;
+    case IO_WRITE:
+        error = io_write(dev, rcvid, &msg->write, info);
+        break;
+    case IO_STAT:
+        error = io_stat(dev, rcvid);
+        break;
     }
     if (error != EOK) MsgError(rcvid, error);
 }
 
 static int handle_pulse(device_t *dev, const struct _pulse *pulse) {
     switch (pulse->code) {
-    case _PULSE_CODE_UNBLOCK: io_unblock(dev, pulse->value.sival_int); break;
-    case _PULSE_CODE_DISCONNECT: ConnectDetach(pulse->scoid); break;
-    case PULSE_INTERRUPT: dev->interrupts += (uint32_t)pulse->value.sival_int; break;
-    case PULSE_QUIT: return -1;
+    case _PULSE_CODE_UNBLOCK:
+        io_unblock(dev, pulse->value.sival_int);
+        break;
+    case _PULSE_CODE_DISCONNECT:
+        ConnectDetach(pulse->scoid);
+        break;
+    case PULSE_INTERRUPT:
+        dev->interrupts += (uint32_t)pulse->value.sival_int;
+        break;
+    case PULSE_QUIT:
+        return -1;
     }
     return 0;
 }
@@ -161,7 +187,8 @@ int main(void) {
     neutrino_leave();
     int coid = open_device(WRITER);
     pthread_create(&running[0], NULL, driver, NULL);
-    for (int i = 0; i < 3; i++) MsgSendPulse(coid, 50, PULSE_INTERRUPT, 1); /* as an interrupt's handler does */
+    /* As the handler of an interrupt does. */
+    for (int i = 0; i < 3; i++) MsgSendPulse(coid, 50, PULSE_INTERRUPT, 1);
     read_for(coid, 20 * 1000000ull);
     pthread_create(&running[1], NULL, reader, NULL);
     try_the_device(coid);

@@ -1,4 +1,4 @@
-/* A server and a client: one message, and its answer. */
+/* A server and a client: one message and its reply. */
 #include <pthread.h>
 #include <stdio.h>
 #include <sys/neutrino.h>

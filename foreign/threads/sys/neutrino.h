@@ -1,21 +1,22 @@
 /* Threads that send, receive and reply as under QNX Neutrino, and sleep while they wait.
  *
- * The kernel below is proved (balsaeuchre.h). This layer is C: tested, not proved.
+ * The kernel below this layer is proved (balsaeuchre.h). This layer is C: tested, not proved.
  *
- * The calls have the signatures of QNX's Library Reference, on the pages of the same names. The numbers are not QNX's:
- * errors are the host's errno, and flags and pulse codes are this project's. Message vectors, the _r forms,
- * MsgDeliverEvent, timers, nodes, name lookup, process death and resource managers are missing.
+ * The calls have the prototypes of QNX's Library Reference, which describes them on the pages of the same
+ * names. The numbers are not QNX's: errors are the host's errno, and flags and pulse codes are this
+ * project's. Message vectors, the _r forms, MsgDeliverEvent, timers, nodes, name lookup, process death and
+ * resource managers are missing.
  *
- * A program opens a kernel of all its threads, and each joins it by its number before its first call. A process is a
- * group of these threads. Every call also fails with:
+ * A program opens a kernel with all its threads. Each thread joins the kernel by its number before its first
+ * call. A process is a group of these threads. Every call also fails with:
  *   EPERM      the thread has not joined, or it runs in a forked child
  *   EDEADLK    a signal handler makes the call, and has interrupted another call of its thread
  *   ESHUTDOWN  the kernel is shut down
- *   ENOMEM     the allocator refused
+ *   ENOMEM     the allocator has no memory
  *   EOVERFLOW  the kernel has made all the 2^40 calls that it can number
  *   EFAULT     a buffer is null and its length is not 0
- * No call is a cancellation point, and no signal ends one, unless a library above asks for it (neutrino_interruptible).
- * The header needs POSIX.1-2008: -std=gnu11, or _POSIX_C_SOURCE.
+ * No call is a cancellation point, and no signal ends a call, unless a library above the layer asks for that
+ * (neutrino_interruptible). The header needs POSIX.1-2008: -std=gnu11, or _POSIX_C_SOURCE.
  */
 #ifndef BALSAEUCHRE_SYS_NEUTRINO_H
 #define BALSAEUCHRE_SYS_NEUTRINO_H
@@ -35,8 +36,8 @@
 extern "C" {
 #endif
 
-/* The version of this header: 10 is 0.10. Headers of an unproved library (foreign/install --unproved) have the second of
- * these versions. */
+/* The version of this header: 10 is 0.10. The headers of an unproved library (foreign/install --unproved)
+ * have the second version below. */
 #ifndef BALSAEUCHRE_IS_UNPROVED
 #define NEUTRINO_VERSION 10
 #else
@@ -53,33 +54,38 @@ struct neutrino_thread {
     uint8_t priority; /* 1 to 255: the initial one */
 };
 
-/* Makes a kernel of these threads. Returns null and sets errno on an error: EINVAL (a number or priority is 0, or a
- * tid comes twice), EAGAIN (the threads and the processes are more than 64 together, or the host has no key for
- * threads left), ENOMEM, ENOEXEC (this header, the layer and the library are not of one version). */
+/* Makes a kernel with these threads. Returns null and sets errno on an error:
+ *   EINVAL   a number or a priority is 0, or two threads have the same tid
+ *   EAGAIN   threads and processes are more than 64 together, or the host has no thread key left
+ *   ENOMEM   the allocator has no memory
+ *   ENOEXEC  this header, the layer and the library don't have the same version */
 static inline neutrino *neutrino_open(const struct neutrino_thread *threads, size_t count);
 
-/* neutrino_open for a caller that was built with this version of the header. */
+/* Like neutrino_open, for a caller that was built with this version of the header. */
 neutrino *neutrino_open_version(uint32_t version, const struct neutrino_thread *threads, size_t count);
 
-/* Makes the calling thread the one with this number. Returns -1 and sets errno on an error, as all functions below:
- * ESRCH (there is no such number), EBUSY (another thread has joined as it, or this thread has joined a kernel
- * already), EPERM (in a forked child), ENOMEM. */
+/* Joins the calling thread to the kernel as the thread with this number. Returns -1 and sets errno on an
+ * error, as all functions below do:
+ *   ESRCH   the kernel has no such number
+ *   EBUSY   another thread has joined with this number, or this thread has already joined a kernel
+ *   EPERM   in a forked child
+ *   ENOMEM  the host has no memory */
 int neutrino_join(neutrino *kernel, int tid);
 
-/* Removes the calling thread from the kernel. A thread that ends, or is cancelled, leaves by itself; the messages
- * that it received stay held, and the other threads of its process can answer them. */
+/* Removes the calling thread from the kernel. A thread that ends or is cancelled leaves by itself. The
+ * messages that it received stay held, and the other threads of its process can reply to them. */
 int neutrino_leave(void);
 
-/* Ends every call that waits with ESRCH; every later call fails with ESHUTDOWN. A second shutdown is no error. The
- * caller need not have joined. */
+/* Cancels every call that waits, with ESRCH. Every later call fails with ESHUTDOWN. A second shutdown also
+ * succeeds. The caller need not have joined. */
 int neutrino_shutdown(neutrino *kernel);
 
 /* Frees the kernel. EBUSY: a thread is joined. EPERM: in a forked child. */
 int neutrino_close(neutrino *kernel);
 
-/* Ends the call that a thread of the caller's process waits in, with EINTR. If the thread is REPLY-blocked on a
- * channel with the flag _NTO_CHF_UNBLOCK, it stays blocked, and the server gets an unblock pulse. ESRCH: the thread
- * is of another process. */
+/* Ends the call in which a thread of the caller's process waits, with EINTR. If the thread is REPLY-blocked
+ * on a channel with the flag _NTO_CHF_UNBLOCK, it stays blocked, and the server gets an unblock pulse. ESRCH:
+ * the thread belongs to another process. */
 int neutrino_unblock(int tid);
 
 enum neutrino_state { STATE_READY = 1, STATE_SEND, STATE_RECEIVE, STATE_REPLY };
@@ -87,55 +93,60 @@ enum neutrino_state { STATE_READY = 1, STATE_SEND, STATE_RECEIVE, STATE_REPLY };
 /* Returns the state of a thread (0: the caller) of any process, or -1 and ESRCH. */
 int neutrino_state(int tid);
 
-/* Returns its priority, 1 to 255, or -1 and ESRCH. */
+/* Returns a thread's priority, 1 to 255, or -1 and ESRCH. */
 int neutrino_priority(int tid);
 
-/* ---- for a library over this layer, as foreign/qnx is */
+/* ---- for a library over this layer, such as foreign/qnx */
 
-/* From now on neutrino_interrupt and neutrino_cancel end calls of the calling thread. EPERM, EDEADLK. */
+/* From now on neutrino_interrupt and neutrino_cancel end calls of the calling thread. Errors: EPERM,
+ * EDEADLK. */
 int neutrino_interruptible(void);
 
-/* Ends the call that the calling thread waits in, as neutrino_unblock does: with EINTR, or its server gets an unblock
- * pulse. Does nothing if it waits in none. For signal handlers; does not change errno. */
+/* Ends the call in which the calling thread waits, as neutrino_unblock does: with EINTR, or its server gets
+ * an unblock pulse. Does nothing if the thread doesn't wait. For signal handlers: it doesn't change errno. */
 void neutrino_interrupt(void);
 
-/* Returns 1 if the calling thread is in a call, so a signal handler that asks has interrupted one, or else 0. */
+/* Returns 1 if the calling thread is in a call, and 0 if not. In a signal handler 1 means that the
+ * handler has interrupted a call. */
 int neutrino_inside(void);
 
-/* Calls work, which makes its calls as the thread with this number, which nobody has joined as. The calling thread need
- * not have joined; as what it has joined, it is again afterwards. The errors are those of neutrino_join but ENOMEM. */
+/* Calls work, whose calls are then calls of the thread with this number. No thread may have joined with this
+ * number. The calling thread need not have joined. If it has, it is afterwards the same thread as before. The
+ * errors are the errors of neutrino_join, except ENOMEM. */
 int neutrino_act_as(neutrino *kernel, int tid, void (*work)(void *argument), void *argument);
 
-/* Ends, in the same way, the call that this thread waits in, and each later one that has to wait, unless cancellation
- * is disabled there. ESRCH: no such thread has joined. The caller need not have joined. */
+/* Ends the call in which this thread waits, as neutrino_interrupt does, and each later call that has to
+ * wait. A call in which cancellation is disabled continues. ESRCH: no such thread has joined. The
+ * caller need not have joined. */
 int neutrino_cancel(neutrino *kernel, int tid);
 
 struct balsaeuchre_request;
 struct balsaeuchre_event;
 struct _pulse;
 
-/* Functions that the layer calls under the kernel's lock, in which they may call no function of this header. Each may
- * be null. */
+/* Functions that the layer calls under the kernel's lock. They may call no function of this
+ * header. Each may be null. */
 struct neutrino_hooks {
     /* after each call of the kernel, with its buffers as they were passed */
     void (*call)(const struct balsaeuchre_request *request, const void *sent, size_t sent_len, const void *room,
                  size_t room_len, const struct balsaeuchre_event *event);
-    /* before a program's own pulse is copied to its receiver; may change it */
+    /* before a program's own pulse is copied to its receiver; it may change the pulse */
     void (*pulse)(struct _pulse *pulse);
 };
 
-/* Sets the hooks, before a second thread uses the kernel. */
+/* Sets the hooks. It has to be called before a second thread uses the kernel. */
 void neutrino_set_hooks(neutrino *kernel, const struct neutrino_hooks *hooks);
 
 struct neutrino_blocked {
-    int state;  /* as neutrino_state; 0: no thread has joined with this number */
-    int chid;   /* of the channel that it is blocked on, or 0 */
-    int rcvid;  /* REPLY-blocked: of its message; else 0 */
-    int server; /* REPLY-blocked: the thread that received its message; SEND-blocked: the one that received last on the
-                   channel, or else created it; else 0 */
+    int state;  /* as neutrino_state returns it; 0: no thread has joined with this number */
+    int chid;   /* of the channel on which it is blocked, or 0 */
+    int rcvid;  /* of its message if it is REPLY-blocked, or 0 */
+    int server; /* of a REPLY-blocked thread: the thread that received its message; of a SEND-blocked thread:
+                   the thread that received last on the channel, or created it if none has; otherwise 0 */
 };
 
-/* Fills all[0] to all[255], by tid, as they are at one time. EPERM, EDEADLK. The caller need not have joined. */
+/* Fills all[0] to all[255], by tid, as the threads are at one time. Errors: EPERM, EDEADLK. The
+ * caller need not have joined. */
 int neutrino_look(neutrino *kernel, struct neutrino_blocked *all);
 
 /* ---- the names of the Library Reference */
@@ -156,10 +167,10 @@ int neutrino_look(neutrino *kernel, struct neutrino_blocked *all);
 #define _PULSE_TYPE 0
 #define _PULSE_CODE_MINAVAIL 0 /* a program's own pulse codes */
 #define _PULSE_CODE_MAXAVAIL 127
-#define _PULSE_CODE_UNBLOCK (-1)    /* value.sival_int: the rcvid; 0 if that message has been answered since */
-#define _PULSE_CODE_DISCONNECT (-2) /* scoid: that of the messages from this process */
+#define _PULSE_CODE_UNBLOCK (-1)    /* value.sival_int: the rcvid, or 0 if the message has its reply by now */
+#define _PULSE_CODE_DISCONNECT (-2) /* scoid: as in the messages from this process */
 
-#define _NTO_MI_UNBLOCK_REQ 0x100 /* flags of _msg_info: the sender was unblocked, and waits for an answer */
+#define _NTO_MI_UNBLOCK_REQ 0x100 /* flags of _msg_info: the sender was unblocked, and waits for the reply */
 
 struct _pulse {
     uint16_t type;
@@ -173,10 +184,10 @@ struct _pulse {
 struct _msg_info {
     uint32_t nd;
     uint32_t srcnd;
-    pid_t pid;         /* of the sender */
+    pid_t pid; /* of the sender */
     int32_t tid;
     int32_t chid;
-    int32_t scoid;     /* one for each process that sends */
+    int32_t scoid; /* one for each process that sends */
     int32_t coid;
     int16_t priority;
     int16_t flags;     /* _NTO_MI_UNBLOCK_REQ or 0 */
@@ -187,46 +198,51 @@ struct _msg_info {
     uint32_t reserved;
 };
 
-/* Creates a channel of the caller's process. Returns its chid, or -1: EAGAIN (64 are open), EINVAL (flags). */
+/* Creates a channel of the caller's process. Returns its chid, or -1: EAGAIN (64 are open), EINVAL
+ * (flags). */
 int ChannelCreate(unsigned flags);
 
-/* Destroys a channel, and ends the calls that wait on it, with ESRCH. EINVAL: it is not open, or of another process. */
+/* Destroys a channel, and cancels the calls that wait on it, with ESRCH. EINVAL: the channel is not open, or
+ * belongs to another process. */
 int ChannelDestroy(int chid);
 
-/* Attaches to a channel of the process pid (0: the caller's). Returns the coid, or -1: ESRCH (no such channel or
- * node), EAGAIN (1,024 connections). index and flags are not read. */
+/* Attaches to a channel of the process pid (0: the caller's). Returns the coid, or -1: ESRCH (no such channel
+ * or node), EAGAIN (1,024 connections). index and flags are ignored. */
 int ConnectAttach(uint32_t nd, pid_t pid, int chid, unsigned index, int flags);
 
-/* Detaches a connection, and ends each MsgSend over it, with EBADF. EINVAL: no such connection. Ignores an scoid. */
+/* Detaches a connection, and cancels each MsgSend over it, with EBADF. EINVAL: there is no such
+ * connection. Ignores an scoid. */
 int ConnectDetach(int coid);
 
-/* Sends a message, and waits for the answer. Returns the status of the MsgReply, or -1: the error of the MsgError,
- * EBADF (no such connection, or its channel is gone), ESRCH (the channel was destroyed), EINTR, ETIMEDOUT. */
+/* Sends a message, and waits for the reply. Returns the status of the MsgReply, or -1: the error of
+ * the MsgError, EBADF (no such connection, or its channel is gone), ESRCH (the channel was
+ * destroyed), EINTR, ETIMEDOUT. */
 long MsgSend(int coid, const void *smsg, size_t sbytes, void *rmsg, size_t rbytes);
 
-/* Waits for a message or a pulse. Returns the rcvid of a message, or 0 for a pulse, which is cut if msg is too short.
- * info is written only for a message, and may be null. ESRCH: no such channel of this process, or it was destroyed;
- * EINTR; ETIMEDOUT. */
+/* Waits for a message or a pulse. Returns the rcvid of a message, or 0 for a pulse. A pulse is truncated if
+ * msg is too short. info is written only for a message, and may be null. ESRCH: this process has no such
+ * channel, or the channel was destroyed. Other errors: EINTR, ETIMEDOUT. */
 int MsgReceive(int chid, void *msg, size_t bytes, struct _msg_info *info);
 
 /* Waits for a pulse. info is not written. */
 int MsgReceivePulse(int chid, void *pulse, size_t bytes, struct _msg_info *info);
 
-/* Answers a message that the process holds. ESRCH: it holds no such message. */
+/* Replies to a message that the process holds. ESRCH: it holds no such message. */
 int MsgReply(int rcvid, long status, const void *msg, size_t bytes);
 int MsgError(int rcvid, int error);
 
-/* Copies from a held message, or into its sender's reply buffer. Returns the number of bytes. ESRCH as above. */
+/* MsgRead copies from a held message, and MsgWrite into its sender's reply buffer. Both return the number of
+ * bytes. MsgInfo writes the facts of a held message. ESRCH: the process holds no such message. */
 ssize_t MsgRead(int rcvid, void *msg, size_t bytes, size_t offset);
 ssize_t MsgWrite(int rcvid, const void *msg, size_t bytes, size_t offset);
 int MsgInfo(int rcvid, struct _msg_info *info);
 
-/* Sends a pulse: priority 1 to 255, or -1 for the caller's; code 0 to 127. EBADF, EINVAL, EAGAIN (1,024 pulses wait on
- * the channel). */
+/* Sends a pulse. priority is 1 to 255, or -1 for the caller's priority. code is 0 to 127. Errors: EBADF,
+ * EINVAL, EAGAIN (1,024 pulses wait on the channel). */
 int MsgSendPulse(int coid, int priority, int code, int value);
 
-/* Sets the priority of a thread (0: the caller) of the caller's process. It orders messages, and does not change the
- * host's scheduling; policy is not read. ESRCH, EINVAL. */
+/* Sets the priority of a thread (0: the caller) of the caller's process. It orders messages, and does not
+ * change the host's scheduling. policy is ignored. Errors: ESRCH, EINVAL. */
 int SchedSet(pid_t pid, int tid, int policy, const struct sched_param *param);
 
 #define _NTO_TIMEOUT_SEND (1 << STATE_SEND)
@@ -238,11 +254,12 @@ int SchedSet(pid_t pid, int tid, int policy, const struct sched_param *param);
 #define SIGEV_UNBLOCK_INIT(event) ((void)((event)->sigev_notify = SIGEV_UNBLOCK))
 #endif
 
-/* Sets the timeout of this thread's next call: once *ntime nanoseconds have passed since the call was made and it is
- * in one of the states of flags, it is unblocked as by neutrino_unblock, and then fails with ETIMEDOUT. If ntime is
- * null, it does not wait in these states at all. flags 0 removes the timeout. notify is null or of SIGEV_UNBLOCK.
- * *otime, if otime is not null, gets the time of the timeout that this one replaces, or 0. EINVAL: another flag or
- * event, or another clock than CLOCK_MONOTONIC or CLOCK_REALTIME, which are treated alike. */
+/* Sets the timeout of this thread's next call. It is over once *ntime nanoseconds have passed since the call
+ * was made and the call is in one of the states of flags. Then the thread is unblocked as by
+ * neutrino_unblock, and the call fails with ETIMEDOUT. If ntime is null, the call does not wait in these
+ * states at all. flags 0 removes the timeout. notify is null or of SIGEV_UNBLOCK. *otime, if otime is not
+ * null, gets the time of the timeout that is replaced, or 0. EINVAL: another flag or event, or another clock
+ * than CLOCK_MONOTONIC or CLOCK_REALTIME. Both clocks have the same effect. */
 int TimerTimeout(clockid_t id, int flags, const struct sigevent *notify, const uint64_t *ntime, uint64_t *otime);
 
 static inline neutrino *neutrino_open(const struct neutrino_thread *threads, size_t count) {

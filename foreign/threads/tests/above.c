@@ -1,4 +1,4 @@
-/* What a library over the layer uses: interruptions, cancellations, a look at all threads, and hooks. */
+/* Functions for a library over the layer: interruptions, cancellations, a look at all threads, and hooks. */
 #include "tests.h"
 #include "balsaeuchre.h"
 
@@ -29,7 +29,8 @@ static pthread_t begin(struct job *job, int state) {
     return thread;
 }
 
-/* A handler ends the call of an interruptible thread, and of no other; with the flag UNBLOCK its server decides. */
+/* A handler ends the call of an interruptible thread, and of no other. On a channel with the flag
+ * UNBLOCK the server decides. */
 void interrupts(void) {
     neutrino *kernel = open_few();
     struct sigaction action;
@@ -40,7 +41,7 @@ void interrupts(void) {
     action.sa_handler = interrupt;
     action.sa_flags = SA_RESTART;
     check(sigaction(SIGUSR1, &action, NULL) == 0);
-    neutrino_interrupt(); /* it waits in no call */
+    neutrino_interrupt(); /* the thread waits in no call */
     int chid = ChannelCreate(0), told = ChannelCreate(_NTO_CHF_UNBLOCK);
     struct job job = {.kernel = kernel, .tid = 2, .chid = chid, .states = 1};
     pthread_t thread = begin(&job, STATE_SEND);
@@ -64,7 +65,7 @@ void interrupts(void) {
     close_few(kernel);
 }
 
-/* A cancelled thread's call ends, and each later one that has to wait. */
+/* A cancelled thread's call ends, and so does each later call that has to wait. */
 void cancelled(void) {
     neutrino *kernel = open_few();
     struct job job = {.kernel = kernel, .tid = 1, .chid = ChannelCreate(0), .states = 1};
@@ -86,7 +87,7 @@ void cancelled(void) {
     check(neutrino_interruptible() == 0 && neutrino_cancel(kernel, 1) == 0);
     fails(MsgReceive(chid, room, 8, NULL), EINTR);
     fails(MsgReceive(chid, room, 8, NULL), EINTR);
-    become(kernel, 1); /* another thread's place is not cancelled */
+    become(kernel, 1); /* the next thread in the place is not cancelled */
     check(neutrino_interruptible() == 0);
     set_timeout(_NTO_TIMEOUT_RECEIVE, 1000000);
     fails(MsgReceive(chid, room, 8, NULL), ETIMEDOUT);
@@ -102,7 +103,7 @@ static void call_again(void *kernel) {
     fails(neutrino_join(kernel, 3), EBUSY);
 }
 
-/* A thread acts as another, and is itself again, with its timeout and its cancellation. */
+/* A thread acts as another, and afterwards is itself again, with its timeout and its cancellation. */
 void acts(void) {
     neutrino *kernel = neutrino_open(few, 4);
     char room[8];
@@ -125,7 +126,8 @@ void acts(void) {
     close_few(kernel);
 }
 
-/* A channel that is full of pulses takes no unblock pulse, so its server isn't asked for anything until there is room. */
+/* A channel that is full of pulses takes no unblock pulse. So its server isn't asked for
+ * anything until there is room. */
 void full_channels(void) {
     neutrino *kernel = open_few();
     struct sigaction action;
@@ -178,7 +180,9 @@ static int calls_seen, bytes_seen;
 
 static void see_call(const struct balsaeuchre_request *request, const void *sent, size_t sent_len, const void *room,
                      size_t room_len, const struct balsaeuchre_event *event) {
-    (void)sent, (void)room, (void)room_len;
+    (void)sent;
+    (void)room;
+    (void)room_len;
     calls_seen++;
     check(event->done.call == (uint64_t)calls_seen && request->thread == 1);
     bytes_seen += (int)sent_len;

@@ -1,4 +1,4 @@
-/* Each call, what it answers, and its errors. */
+/* Each call, its results, and its errors. */
 #include "tests.h"
 
 #include <limits.h>
@@ -117,7 +117,7 @@ static void *send_long(void *argument) {
     return NULL;
 }
 
-/* Messages of up to 100,000 bytes into buffers of up to as many, each byte of both. */
+/* Messages of up to 100,000 bytes into buffers of up to 100,000 bytes. Each byte of both is compared. */
 void long_messages(void) {
     neutrino *kernel = open_few();
     char *room = malloc(LONGEST);
@@ -254,7 +254,8 @@ static int receive_from(struct job *job, pthread_t *client) {
     return MsgReceive(job->chid, room, sizeof room, NULL);
 }
 
-/* A held message keeps its number, also where that is in the place of an earlier one whose sender ends another call. */
+/* A held message keeps its number. That holds even if its number is in the place of an earlier message whose
+ * sender ends another call. */
 static void held_number(neutrino *kernel) {
     struct job one = {.kernel = kernel, .tid = 2, .chid = ChannelCreate(0)};
     struct job other = {.kernel = kernel, .tid = 4, .chid = one.chid};
@@ -269,7 +270,7 @@ static void held_number(neutrino *kernel) {
     check(ChannelDestroy(one.chid) == 0);
 }
 
-/* Numbers that were made and are gone, and numbers that never were, lead to nothing. */
+/* Numbers that are gone and numbers that never existed lead to nothing. */
 void numbers(void) {
     neutrino *kernel = open_few();
     static const int wrong[] = {0, -1, -5, INT_MIN, INT_MAX, 1, 64, 65, 1024, 1025, 0x40000000};

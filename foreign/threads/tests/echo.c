@@ -3,9 +3,18 @@
 
 enum { STOP = 7, STOPPER = 200 };
 
-struct run { int clients, servers, rounds, late, informed; };
-struct worker { neutrino *kernel; int tid, number; struct run *run; };
-union request { struct _pulse pulse; uint8_t bytes[64]; };
+struct run {
+    int clients, servers, rounds, late, informed;
+};
+struct worker {
+    neutrino *kernel;
+    int tid, number;
+    struct run *run;
+};
+union request {
+    struct _pulse pulse;
+    uint8_t bytes[64];
+};
 
 static _Atomic int answered, chid_made;
 

@@ -1,4 +1,4 @@
-/* Calls that wait and are ended by force: unblocked, timed out, detached, destroyed under, shut down. */
+/* Calls that wait and are cancelled: unblocked, timed out, detached, by a destroyed channel, or shut down. */
 #include "tests.h"
 
 enum { SHORT = 1000000, SENDING = _NTO_TIMEOUT_SEND | _NTO_TIMEOUT_REPLY };
@@ -39,11 +39,12 @@ void unblocks(void) {
     check(neutrino_unblock(2) == 0);
     become(kernel, 1);
     check(MsgReply(rcvid, 6, NULL, 0) == 0 && result_of(client) == 6);
-    check(MsgReceivePulse(told, &pulse, sizeof pulse, NULL) == 0 && pulse.value.sival_int == 0); /* answered since */
+    /* The message has its reply by now. */
+    check(MsgReceivePulse(told, &pulse, sizeof pulse, NULL) == 0 && pulse.value.sival_int == 0);
     close_few(kernel);
 }
 
-/* Sends once thread 1 has waited for a while, so that its message is received at once. */
+/* Sends when thread 1 has waited for a while, so that the message is received at once. */
 static void *send_to_receiver(void *argument) {
     struct job *job = argument;
     check(neutrino_join(job->kernel, job->tid) == 0);
@@ -92,7 +93,7 @@ static void timeout_errors(void) {
     fails(TimerTimeout(CLOCK_PROCESS_CPUTIME_ID, SENDING, NULL, &time, NULL), EINVAL);
 }
 
-/* A timeout holds for its states alone, and for one call. */
+/* A timeout applies only to its states, and only to one call. */
 void timeout_states(void) {
     neutrino *kernel = open_few();
     char room[8];
@@ -102,7 +103,7 @@ void timeout_states(void) {
     pthread_t client = start(send_once, &job);
     until_state(2, STATE_SEND);
     usleep(20000);
-    check(neutrino_state(2) == STATE_SEND); /* its time is over, but not in this state */
+    check(neutrino_state(2) == STATE_SEND); /* its time is over, but the timeout isn't for this state */
     int rcvid = MsgReceive(chid, room, sizeof room, NULL);
     check(result_of(client) == -ETIMEDOUT);
     fails(MsgReply(rcvid, 0, NULL, 0), ESRCH);
@@ -125,7 +126,7 @@ void timeout_states(void) {
     usleep(5000);
     check(MsgReply(rcvid, 9, NULL, 0) == 0 && result_of(client) == 9);
     set_timeout(_NTO_TIMEOUT_RECEIVE, 0);
-    check(neutrino_state(0) == STATE_READY); /* takes the timeout */
+    check(neutrino_state(0) == STATE_READY); /* uses up the timeout */
     job.states = 0;
     client = start(send_to_receiver, &job);
     check((rcvid = MsgReceive(chid, room, sizeof room, NULL)) > 0); /* waits */
@@ -188,7 +189,7 @@ void destroys(void) {
 
 enum { PART = 1000 };
 
-/* Sends with a reply buffer that begins at the job's time. */
+/* Sends with a reply buffer whose address is the job's time. */
 static void *send_part(void *argument) {
     struct job *job = argument;
     check(neutrino_join(job->kernel, job->tid) == 0);
@@ -198,7 +199,7 @@ static void *send_part(void *argument) {
     return NULL;
 }
 
-/* Calls that end together bring their buffers whole, though each is short. */
+/* Calls that are completed together get all bytes of their buffers, though each buffer is short. */
 void parts(void) {
     static char buffers[3][PART];
     neutrino *kernel = open_few();
@@ -235,7 +236,7 @@ void shutdowns(void) {
     fails(ChannelCreate(0), ESHUTDOWN);
     fails(MsgReceive(chid, room, 8, NULL), ESHUTDOWN);
     fails(MsgSendPulse(1, -1, 1, 1), ESHUTDOWN);
-    check(neutrino_shutdown(kernel) == 0); /* once more is no error */
+    check(neutrino_shutdown(kernel) == 0); /* a second shutdown succeeds, too */
     close_few(kernel);
     kernel = open_few();
     become(kernel, 2);

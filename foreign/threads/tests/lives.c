@@ -1,4 +1,4 @@
-/* Kernels that are opened and joined, and threads that end, are cancelled, fork or are interrupted. */
+/* Kernels that are opened and joined; threads that end, are cancelled, fork or are interrupted. */
 #include "tests.h"
 
 #include <sys/wait.h>
@@ -43,13 +43,13 @@ void joins(void) {
     fails(neutrino_join(kernel, 0), ESRCH);
     fails(neutrino_join(kernel, -1), ESRCH);
     fails(neutrino_join(kernel, 256), ESRCH);
-    fails(neutrino_join(kernel, 255), ESRCH); /* a clock's, or nobody's */
+    fails(neutrino_join(kernel, 255), ESRCH); /* the number of a clock, or of nobody */
     check(neutrino_join(kernel, 1) == 0);
     fails(neutrino_join(kernel, 2), EBUSY);
     check(result_of(start(join_once, kernel)) == -EBUSY);
     fails(neutrino_close(kernel), EBUSY);
     check(neutrino_leave() == 0);
-    check(result_of(start(join_once, kernel)) == 0); /* and it ends while it is joined */
+    check(result_of(start(join_once, kernel)) == 0); /* and the thread ends while it is joined */
     check(neutrino_join(kernel, 1) == 0);
     close_few(kernel);
 }
@@ -88,7 +88,7 @@ static void *serve_other(void *argument) {
     return NULL;
 }
 
-/* Two kernels at once, with the same numbers. */
+/* Two kernels at the same time, with the same numbers. */
 void two_kernels(void) {
     struct job servers[2];
     pthread_t running[2];
@@ -109,7 +109,7 @@ void two_kernels(void) {
     }
 }
 
-/* In a child each function on the kernel is refused, though another thread had the lock as it was forked. */
+/* In a child each function on the kernel is refused, even if another thread had the lock at the fork. */
 static void in_the_child(neutrino *kernel) {
     alarm(300); /* ends a child that hangs */
     fails(ChannelCreate(0), EPERM);
@@ -161,7 +161,8 @@ static void *receive_cancelled(void *argument) {
     return NULL;
 }
 
-/* A thread that is cancelled while it waits is cancelled behind its call, and leaves; another may be it then. */
+/* A thread that is cancelled while it waits is cancelled after its call, and leaves. Then another thread
+ * can join with its number. */
 void cancels(void) {
     neutrino *kernel = open_few();
     struct job waits = {.kernel = kernel, .tid = 3}, sends = {.kernel = kernel, .tid = 4};
@@ -171,12 +172,12 @@ void cancels(void) {
     until_state(3, STATE_RECEIVE);
     check(pthread_cancel(waiting) == 0);
     usleep(20000);
-    check(neutrino_state(3) == STATE_RECEIVE); /* it goes on waiting */
+    check(neutrino_state(3) == STATE_RECEIVE); /* it continues to wait */
     become(kernel, 4);
     sends.coid = ConnectAttach(0, CLIENTS, waits.chid, 0, 0);
     check(sends.coid > 0 && neutrino_leave() == 0);
     pthread_t sending = start(send_once, &sends);
-    result_of(waiting); /* which goes on for ever where it is not cancelled */
+    result_of(waiting);                   /* the thread never ends if it is not cancelled */
     check(neutrino_join(kernel, 3) == 0); /* its number is free, and its process still holds the message */
     struct job again = {.kernel = kernel, .tid = 2, .chid = waits.chid, .states = _NTO_TIMEOUT_RECEIVE};
     check(result_of(start(receive_once, &again)) == -ETIMEDOUT);
@@ -193,7 +194,7 @@ static void *exit_joined(void *argument) {
 void exits(void) {
     neutrino *kernel = neutrino_open(few, 4);
     for (int turn = 0; turn < 50; turn++) result_of(start(exit_joined, kernel));
-    check(neutrino_close(kernel) == 0); /* nobody is joined any more */
+    check(neutrino_close(kernel) == 0); /* no thread is joined now */
 }
 
 static neutrino *handled;
@@ -228,7 +229,7 @@ static void handle(void (*handler)(int)) {
     check(sigaction(SIGUSR1, &action, NULL) == 0);
 }
 
-/* A thread that has not joined is refused too what would take the lock that it has. */
+/* A thread that has not joined is also refused each function that would take the lock that it has. */
 static void signals_unjoined(void) {
     handled = neutrino_open(few, 4);
     handle(shut_down_within);
@@ -243,7 +244,7 @@ static void signals_unjoined(void) {
     check(neutrino_close(handled) == 0);
 }
 
-/* A handler that interrupts a call is refused a call, and the call goes on. */
+/* A handler that interrupts a call is refused a call, and the interrupted call continues. */
 void signals(void) {
     signals_unjoined();
     neutrino *kernel = handled = open_few();
@@ -273,7 +274,7 @@ static void *send_with_room(void *argument) {
     return NULL;
 }
 
-/* What was refused is not kept for the calls of others. */
+/* Room that was refused to one call is not counted for the calls of others. */
 static void send_long_after(neutrino *kernel, int chid) {
     struct job job = {.kernel = kernel, .chid = chid};
     char room[8];
@@ -283,7 +284,7 @@ static void send_long_after(neutrino *kernel, int chid) {
     result_of(client);
 }
 
-/* Buffers that the allocator refuses: the call fails, and the next is as ever. */
+/* Buffers for which the allocator has no memory: the call fails, and the next call is made as usual. */
 void memory(void) {
     neutrino *kernel = open_few();
     static char buffer[8];

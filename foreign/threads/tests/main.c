@@ -4,15 +4,19 @@
 const struct neutrino_thread few[4] = {{1, SERVER, 10}, {2, CLIENTS, 20}, {3, CLIENTS, 30}, {4, OTHERS, 5}};
 int rounds = 2000;
 
-#define TEST(name) {#name, name}
-static const struct { const char *name; void (*run)(void); } tests[] = {
-    TEST(not_joined), TEST(joins),      TEST(versions),     TEST(rosters),        TEST(two_kernels),
-    TEST(messages),   TEST(lengths),    TEST(long_messages), TEST(pulses),        TEST(priorities),
-    TEST(limits),     TEST(numbers),    TEST(unblocks),     TEST(timeouts),       TEST(timeout_states),
-    TEST(detaches),   TEST(destroys),   TEST(shutdowns),    TEST(forks),          TEST(cancels),
-    TEST(exits),      TEST(signals),    TEST(memory),       TEST(interrupts),     TEST(cancelled),
-    TEST(looks),      TEST(hooks),      TEST(echo_1_1),     TEST(echo_8_4),       TEST(echo_32_16),
-    TEST(late_8_4),   TEST(late_40_8),  TEST(parts),    TEST(acts),           TEST(full_channels),
+#define TEST(name) \
+    { #name, name }
+static const struct {
+    const char *name;
+    void (*run)(void);
+} tests[] = {
+    TEST(not_joined), TEST(joins),     TEST(versions),      TEST(rosters),    TEST(two_kernels),
+    TEST(messages),   TEST(lengths),   TEST(long_messages), TEST(pulses),     TEST(priorities),
+    TEST(limits),     TEST(numbers),   TEST(unblocks),      TEST(timeouts),   TEST(timeout_states),
+    TEST(detaches),   TEST(destroys),  TEST(shutdowns),     TEST(forks),      TEST(cancels),
+    TEST(exits),      TEST(signals),   TEST(memory),        TEST(interrupts), TEST(cancelled),
+    TEST(looks),      TEST(hooks),     TEST(echo_1_1),      TEST(echo_8_4),   TEST(echo_32_16),
+    TEST(late_8_4),   TEST(late_40_8), TEST(parts),         TEST(acts),       TEST(full_channels),
 };
 
 neutrino *open_few(void) {

@@ -1,4 +1,4 @@
-/* The tables of names by themselves: that turns go round, and that an old name leads to nothing. */
+/* Tests of the tables of names: turns begin again, and an old name leads to nothing. */
 #define _GNU_SOURCE
 #include "../neutrino.c"
 
@@ -14,7 +14,8 @@
 
 static neutrino k;
 
-/* As many names at once as there are places, with ids beyond an int: each leads to its own id, and back. */
+/* Makes as many names at the same time as there are places, with ids beyond an int. Each name leads to its
+ * own id, and each id to its name. */
 static int all_at_once(enum table table, int count) {
     static int names[1024];
     for (int at = 0; at < count; at++) {
@@ -33,8 +34,8 @@ static int all_at_once(enum table table, int count) {
     return 0;
 }
 
-/* Names that are made and ended one by one: all places are taken in turn, and none comes again before the turns are
- * over, also where a name stays. */
+/* Makes and ends names one by one. All places are taken in turn. No name comes again before the turns are
+ * over, even while another name stays. */
 static int one_by_one(enum table table, bool one_stays) {
     struct names *names = &k.tables[table];
     int count = 1 << names->bits, first = 0, before = 0, stays = 0;
@@ -57,10 +58,11 @@ static int one_by_one(enum table table, bool one_stays) {
     return 0;
 }
 
-/* The numbers of channels begin with 1, and go on to the place 0 and to the next turn. */
+/* The numbers of channels begin with 1, and continue with the place 0 of the next turn. */
 static int from_one(void) {
     for (int number = 1; number < 200; number++) {
-        check(new_name(&k, CHANNELS, (uint64_t)number, 1) == number && id_of(&k, CHANNELS, number, 1) == (uint64_t)number);
+        check(new_name(&k, CHANNELS, (uint64_t)number, 1) == number &&
+              id_of(&k, CHANNELS, number, 1) == (uint64_t)number);
         check(id_of(&k, CHANNELS, number + 1, 0) == 0 && number_of(&k, CHANNELS, (uint64_t)number) == number);
         end_name(&k, CHANNELS, number);
     }

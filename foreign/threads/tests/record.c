@@ -1,6 +1,7 @@
-/* Keeps each call of the library in the order of the layer's lock, and what each thread got of its own calls. When a
- * kernel is freed, one thread makes all its calls again: each event must be the one before, and each ending the one
- * that its thread got. Linked with --wrap for the functions of which there is a __wrap_ here.
+/* Keeps each call of the library in the order of the layer's lock, and the results that each thread got from
+ * its own calls. When a kernel is freed, one thread makes all its calls again. Each event must be the same as
+ * before, and each completion must be the same as the result that its thread got. Linked with --wrap for each
+ * function that has a __wrap_ here.
  */
 #include "tests.h"
 #include "balsaeuchre.h"
@@ -9,7 +10,11 @@
 
 enum { KERNELS = 4, THREADS = 256 };
 
-struct got { long result; int error; uint8_t *bytes; };
+struct got {
+    long result;
+    int error;
+    uint8_t *bytes;
+};
 struct entry {
     balsaeuchre_request request;
     uint8_t *sent, *room, *bytes;
@@ -17,9 +22,13 @@ struct entry {
     balsaeuchre_ending *rows;
     balsaeuchre_done done;
     uint32_t answer;
-    bool is_hidden; /* the layer made it, and its thread did not ask for it */
+    bool is_hidden; /* the layer made the call, and its thread didn't ask for it */
 };
-struct gots { struct got *all; size_t count, size, turn; int kind; };
+struct gots {
+    struct got *all;
+    size_t count, size, turn;
+    int kind;
+};
 struct record {
     void *place; /* the library's kernel, or null */
     neutrino *kernel;
@@ -28,7 +37,7 @@ struct record {
     bool is_thread[THREADS]; /* the others of the roster are the layer's clocks */
     struct entry *entries;
     size_t count, size;
-    struct gots gots[THREADS]; /* by thread; kind is that of the call that it is in */
+    struct gots gots[THREADS]; /* by thread; kind is the kind of its current call */
 };
 
 static struct record records[KERNELS];
@@ -80,14 +89,14 @@ uint32_t __wrap_balsaeuchre_new(const balsaeuchre_thread *threads, size_t thread
     return 0;
 }
 
-/* By the layer, under its lock. */
+/* The layer calls it under its lock. */
 uint32_t __wrap_balsaeuchre_make_call(balsaeuchre *handle, const balsaeuchre_request *request, const uint8_t *sent,
                                       size_t sent_len, const uint8_t *room, size_t room_len, balsaeuchre_ending *rows,
                                       size_t row_count, uint8_t *bytes, size_t bytes_len, balsaeuchre_done *done) {
     uint32_t error = __real_balsaeuchre_make_call(handle, request, sent, sent_len, room, room_len, rows, row_count,
                                                   bytes, bytes_len, done);
     struct record *r = record_of(handle->place);
-    if (!r) return error; /* of a kernel that a child opened or that is made again */
+    if (!r) return error; /* a kernel that a child opened, or that is made again */
     r->entries = grow(r->entries, r->count, &r->size, sizeof *r->entries);
     struct entry *e = &r->entries[r->count++];
     *e = (struct entry){.request = *request, .sent_len = sent_len, .room_len = room_len, .answer = error};
@@ -128,19 +137,25 @@ static int error_of(const balsaeuchre_ending *row, const struct got *got) {
 static bool is_result(const balsaeuchre_ending *row, const struct got *got) {
     struct _pulse pulse;
     switch (row->mark) {
-    case BALSAEUCHRE_REPLIED: return got->result == row->status;
-    case BALSAEUCHRE_COUNT: return got->result == (long)row->count;
-    case BALSAEUCHRE_THREAD_STATE: return got->result == row->state || got->result == row->priority;
+    case BALSAEUCHRE_REPLIED:
+        return got->result == row->status;
+    case BALSAEUCHRE_COUNT:
+        return got->result == (long)row->count;
+    case BALSAEUCHRE_THREAD_STATE:
+        return got->result == row->state || got->result == row->priority;
     case BALSAEUCHRE_PULSED:
         if (row->what != BALSAEUCHRE_WHAT_USER) return got->result == 0;
         memcpy(&pulse, got->bytes, sizeof pulse);
         return got->result == 0 && pulse.code == row->pulse_code;
     case BALSAEUCHRE_MESSAGE:
     case BALSAEUCHRE_CHANNEL:
-    case BALSAEUCHRE_CONNECTION: return got->result > 0;
+    case BALSAEUCHRE_CONNECTION:
+        return got->result > 0;
     case BALSAEUCHRE_DONE:
-    case BALSAEUCHRE_INFORMED: return got->result == 0;
-    default: return got->result == -1;
+    case BALSAEUCHRE_INFORMED:
+        return got->result == 0;
+    default:
+        return got->result == -1;
     }
 }
 
@@ -184,7 +199,10 @@ static void make_again(struct record *r) {
     for (size_t at = 0; at < r->count; at++) {
         struct entry *e = &r->entries[at];
         compare(r, e, &kernel, at);
-        free(e->sent), free(e->room), free(e->rows), free(e->bytes);
+        free(e->sent);
+        free(e->room);
+        free(e->rows);
+        free(e->bytes);
     }
     for (int thread = 0; thread < THREADS; thread++) {
         struct gots *gots = &r->gots[thread];
@@ -264,15 +282,15 @@ WRAP(int, ConnectAttach, CONNECT_ATTACH, (uint32_t nd, pid_t pid, int chid, unsi
 WRAP(int, ConnectDetach, CONNECT_DETACH, (int coid), (coid), NULL, 0)
 WRAP(long, MsgSend, SEND, (int coid, const void *smsg, size_t sbytes, void *rmsg, size_t rbytes),
      (coid, smsg, sbytes, rmsg, rbytes), rmsg, rbytes)
-WRAP(int, MsgReceive, RECEIVE, (int chid, void *msg, size_t bytes, struct _msg_info *info),
-     (chid, msg, bytes, info), msg, bytes)
+WRAP(int, MsgReceive, RECEIVE, (int chid, void *msg, size_t bytes, struct _msg_info *info), (chid, msg, bytes, info),
+     msg, bytes)
 WRAP(int, MsgReceivePulse, RECEIVE_PULSE, (int chid, void *pulse, size_t bytes, struct _msg_info *info),
      (chid, pulse, bytes, info), pulse, bytes)
-WRAP(int, MsgReply, REPLY, (int rcvid, long status, const void *msg, size_t bytes), (rcvid, status, msg, bytes),
-     NULL, 0)
+WRAP(int, MsgReply, REPLY, (int rcvid, long status, const void *msg, size_t bytes), (rcvid, status, msg, bytes), NULL,
+     0)
 WRAP(int, MsgError, ERROR, (int rcvid, int error_), (rcvid, error_), NULL, 0)
-WRAP(ssize_t, MsgRead, READ, (int rcvid, void *msg, size_t bytes, size_t offset), (rcvid, msg, bytes, offset),
-     msg, bytes)
+WRAP(ssize_t, MsgRead, READ, (int rcvid, void *msg, size_t bytes, size_t offset), (rcvid, msg, bytes, offset), msg,
+     bytes)
 WRAP(ssize_t, MsgWrite, WRITE, (int rcvid, const void *msg, size_t bytes, size_t offset), (rcvid, msg, bytes, offset),
      NULL, 0)
 WRAP(int, MsgInfo, INFO, (int rcvid, struct _msg_info *info), (rcvid, info), NULL, 0)

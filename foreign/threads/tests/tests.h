@@ -1,4 +1,4 @@
-/* What the tests of the layer share. A test ends the program where something is not as it should be. */
+/* Functions that the tests of the layer share. If a check fails, the test ends the program with status 1. */
 #ifndef TESTS_H
 #define TESTS_H
 
@@ -24,19 +24,20 @@
 
 /* Processes, and the threads of `few`. */
 enum { SERVER = 1, CLIENTS = 2, OTHERS = 3 };
-extern const struct neutrino_thread few[4]; /* 1 of SERVER, 2 and 3 of CLIENTS, 4 of OTHERS; priorities 10, 20, 30, 5 */
+/* Thread 1 of SERVER, 2 and 3 of CLIENTS, and 4 of OTHERS, with the priorities 10, 20, 30 and 5. */
+extern const struct neutrino_thread few[4];
 
-/* What a thread that makes one call is given, and how that ended: the result, or -errno. */
+/* The arguments of a thread that makes one call. The thread returns the call's result, or -errno. */
 struct job {
     neutrino *kernel;
     int tid, chid, states;
     uint64_t time; /* nanoseconds of a timeout for the states */
     char reply[8];
-    int coid; /* over which it sends, or 0: it attaches one */
+    int coid; /* the connection over which it sends, or 0: it attaches one */
 };
 
-neutrino *open_few(void);       /* with the caller as thread 1 */
-void close_few(neutrino *kernel); /* that is joined by the caller alone */
+neutrino *open_few(void);         /* with the caller as thread 1 */
+void close_few(neutrino *kernel); /* only the caller may have joined it */
 void become(neutrino *kernel, int tid);
 pthread_t start(void *(*work)(void *), void *argument);
 long result_of(pthread_t thread);

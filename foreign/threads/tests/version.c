@@ -1,5 +1,5 @@
-/* A library of another version is refused, and standard error says which versions there are, and which of them are
- * unproved. Linked with --wrap=balsaeuchre_version. */
+/* A library of another version is refused. Standard error lists the versions, and which of them are unproved.
+ * Linked with --wrap=balsaeuchre_version. */
 #include "tests.h"
 
 #include <balsaeuchre.h>
@@ -10,7 +10,8 @@ static uint32_t library;
 uint32_t __wrap_balsaeuchre_version(void);
 uint32_t __wrap_balsaeuchre_version(void) { return library; }
 
-/* What standard error has after a kernel was refused to a program with this header, over a library of this version. */
+/* Returns the text of standard error after a program with this header was refused a kernel, over
+ * a library of this version. */
 static const char *refused(uint32_t header, uint32_t library_version) {
     static char said[2048];
     const struct neutrino_thread one = {1, 1, 1};

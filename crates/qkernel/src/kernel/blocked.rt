@@ -1,7 +1,7 @@
-//! The threads that are blocked.
+//! The blocked threads.
 
 ghost use Rattle.std.specs.Prelude.{◌≡◌, ◌++◌, List, Some, is_some, IfOk, OnOk};
-ghost use Rattle.qstate.specs.Thread.{open_in};
+ghost use Rattle.qkernel_state.specs.Thread.{open_in};
 ghost use Rattle.std.specs.Option.{option_to_list};
 ghost use Rattle.qtables.specs.declared.member.Member.{Member};
 ghost use Rattle.qrules.specs.Records.{blocked_thread};
@@ -11,14 +11,15 @@ ghost use Rattle.qkernel.specs.Blocked.{blocked_threads};
 
 use super::Kernel;
 use qbase::ids::ThreadNo;
+use qkernel_state::thread::Thread;
+use qkernel_state::thread_state::state_of;
 use qmodel::open_call::Blocked;
-use qstate::thread::Thread;
-use qstate::thread_state::state_of;
 use std::alloc::{AllocError, Global};
 
 /// Adds the record of a thread to the list, if the thread is blocked.
 fn push_blocked(list: &mut Vec<Blocked>, thread: &Thread) -> Result<(), AllocError>
-    ensures { OnOk result (list.new.items ≡ list.old.items ++ option_to_list (blocked_thread thread.now.member.thread thread.now.open_call)) }
+    ensures { OnOk result (list.new.items ≡ list.old.items ++ option_to_list
+        (blocked_thread thread.now.member.thread thread.now.open_call)) }
 {
     if let Some(call) = &thread.open_call {
         list.push(Blocked {
@@ -33,7 +34,7 @@ fn push_blocked(list: &mut Vec<Blocked>, thread: &Thread) -> Result<(), AllocErr
 impl Kernel {
     ghost use Rattle.qkernel.specs.Stands.{StandsAt};
 
-    /// Returns whether the thread is blocked; false if it isn't in the roster.
+    /// Returns whether the thread is blocked. Returns `false` if it isn't in the roster.
     pub fn is_blocked(&self, thread: ThreadNo) -> bool
         ensures { result ≡ is_some (open_in self.now.threads thread) }
     {
@@ -43,10 +44,11 @@ impl Kernel {
         }
     }
 
-    /// Returns the threads that are blocked, in rising number, for a report of how a run ended. The list is all that
-    /// takes memory.
+    /// Returns the blocked threads, in ascending order of their numbers, for a report of how a run ended.
+    /// Only the list takes memory.
     pub fn blocked(&self, alloc: Global) -> Result<Vec<Blocked>, AllocError>
-        ensures { (roster : List Member) (past : Trace) → StandsAt roster self.now past → IfOk result (λ list. list.items ≡ blocked_threads (facts_of roster past)) }
+        ensures { (roster : List Member) (past : Trace) → StandsAt roster self.now past
+            → IfOk result (λ list. list.items ≡ blocked_threads (facts_of roster past)) }
     {
         let mut list = Vec::new(alloc);
         for thread in self.objects.threads.records() {

@@ -1,27 +1,28 @@
-//! ChannelCreate.
+//! The call `ChannelCreate`.
 
 use super::Kernel;
-use super::caller::Caller;
+use super::call_context::CallContext;
 use qbase::errno::Errno;
 use qbase::flags::ChannelFlags;
 use qbase::ids::ChannelId;
+use qkernel_state::channel::Channel;
+use qkernel_state::completions::{Completions, put};
 use qmodel::call::{Call, Mark};
 use qqueue::queue::Queue;
-use qstate::channel::Channel;
-use qstate::endings::{Endings, put};
 
 impl Kernel {
     ghost use Rattle.qkernel.specs.Private.Caller.{MayCall, MakesOrRefuses};
 
-    /// Creates a channel of the caller's process. The channel's record is all that takes memory.
+    /// Creates a channel of the caller's process. Only the channel's record takes memory.
     pub(super) fn channel_create(
         &mut self,
-        caller: &Caller,
+        caller: &CallContext,
         flags: ChannelFlags,
-        endings: &mut Endings,
+        completions: &mut Completions,
     ) -> Result<(), Errno>
-        requires { MayCall self.old caller.now endings.old.items }
-        ensures { MakesOrRefuses self.old caller.now (Call.ChannelCreate flags) result endings.new.items self.new }
+        requires { MayCall self.old caller.now completions.old.items }
+        ensures { MakesOrRefuses self.old caller.now
+            (Call.ChannelCreate flags) result completions.new.items self.new }
     {
         if !flags.is_known() {
             return Err(Errno::Inval);
@@ -35,7 +36,7 @@ impl Kernel {
         if let Err((errno, _)) = self.objects.channels.create(chid, channel) {
             return Err(errno);
         }
-        put(endings, caller.completion(Mark::Channel(chid)));
+        put(completions, caller.completion(Mark::Channel(chid)));
         Ok(())
     }
 }

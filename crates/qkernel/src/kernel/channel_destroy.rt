@@ -1,34 +1,35 @@
-//! ChannelDestroy.
+//! The call `ChannelDestroy`.
 
 use super::Kernel;
-use super::caller::Caller;
+use super::call_context::CallContext;
 use qbase::errno::Errno;
 use qbase::ids::ChannelId;
+use qkernel_state::cancelling::CancelSet;
+use qkernel_state::completions::Completions;
 use qmodel::call::{Call, Mark};
-use qstate::cancelling::CancelSet;
-use qstate::endings::Endings;
 
 impl Kernel {
     ghost use Rattle.qkernel.specs.Private.Caller.{MayCall, MakesOrRefuses};
 
-    /// Destroys a channel of the caller's process, after each call that is blocked on it has ended with `Srch`. The
-    /// messages and pulses that wait there are dropped, and the connections to it stay: our own profile. Never blocks,
-    /// and takes no memory.
+    /// Destroys a channel of the caller's process, and cancels, with `Srch`, each call that is blocked on it.
+    /// Under Balsaeuchre's own rule, its queued messages and pulses are dropped, and the connections to it
+    /// stay. Never blocks, and takes no memory.
     pub(super) fn channel_destroy(
         &mut self,
-        caller: &Caller,
+        caller: &CallContext,
         chid: ChannelId,
-        endings: &mut Endings,
+        completions: &mut Completions,
     ) -> Result<(), Errno>
-        requires { MayCall self.old caller.now endings.old.items }
-        ensures { MakesOrRefuses self.old caller.now (Call.ChannelDestroy chid) result endings.new.items self.new }
+        requires { MayCall self.old caller.now completions.old.items }
+        ensures { MakesOrRefuses self.old caller.now
+            (Call.ChannelDestroy chid) result completions.new.items self.new }
     {
         if !self.objects.owns(caller.process, chid) {
             return Err(Errno::Inval);
         }
         let own = caller.completion(Mark::Ok);
         self.objects
-            .cancel(CancelSet::On(chid), Errno::Srch, own, endings);
+            .cancel(CancelSet::On(chid), Errno::Srch, own, completions);
         self.objects.close(chid);
         Ok(())
     }

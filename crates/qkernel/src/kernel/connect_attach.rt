@@ -1,25 +1,26 @@
-//! ConnectAttach.
+//! The call `ConnectAttach`.
 
 use super::Kernel;
-use super::caller::Caller;
+use super::call_context::CallContext;
 use qbase::errno::Errno;
 use qbase::ids::{ChannelId, ConnectionId};
+use qkernel_state::completions::{Completions, put};
 use qmodel::call::{Call, Mark};
-use qstate::endings::{Endings, put};
 use qtables::connection::Connection;
 
 impl Kernel {
     ghost use Rattle.qkernel.specs.Private.Caller.{MayCall, MakesOrRefuses};
 
-    /// Attaches the caller's process to an open channel. The connection's record is all that takes memory.
+    /// Attaches the caller's process to an open channel. Only the connection's record takes memory.
     pub(super) fn connect_attach(
         &mut self,
-        caller: &Caller,
+        caller: &CallContext,
         chid: ChannelId,
-        endings: &mut Endings,
+        completions: &mut Completions,
     ) -> Result<(), Errno>
-        requires { MayCall self.old caller.now endings.old.items }
-        ensures { MakesOrRefuses self.old caller.now (Call.ConnectAttach chid) result endings.new.items self.new }
+        requires { MayCall self.old caller.now completions.old.items }
+        ensures { MakesOrRefuses self.old caller.now
+            (Call.ConnectAttach chid) result completions.new.items self.new }
     {
         if !self.objects.is_open(chid) {
             return Err(Errno::Srch);
@@ -32,7 +33,7 @@ impl Kernel {
         if let Err((errno, _)) = self.objects.connections.create(coid, connection) {
             return Err(errno);
         }
-        put(endings, caller.completion(Mark::Connection(coid)));
+        put(completions, caller.completion(Mark::Connection(coid)));
         Ok(())
     }
 }

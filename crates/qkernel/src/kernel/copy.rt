@@ -7,9 +7,9 @@ impl Kernel {
     ghost use Rattle.std.specs.Prelude.{◌≡◌, IfOk};
     ghost use Rattle.qkernel.specs.Kernel.{facts_in};
 
-    /// Returns a kernel that goes on as this one does: it has the same threads, open calls, channels and connections, and
-    /// has made as many calls. Its queues may have less room, so a call of it may be the first to take memory. Error if the
-    /// allocator refuses.
+    /// Returns a kernel that continues as this kernel does: it has the same threads, open calls, channels and
+    /// connections, and has made as many calls. Its queues may have less room, so a call may take memory in
+    /// the copy that takes none in this kernel. Fails if the allocator refuses.
     pub fn copied(&self) -> Result<Kernel, AllocError>
         ensures { IfOk result (λ copy. facts_in copy ≡ facts_in self.now) }
     {

@@ -1,19 +1,20 @@
-//! Info.
+//! The call `Info`.
 
 use super::Kernel;
-use super::caller::Caller;
+use super::call_context::CallContext;
 use qbase::errno::Errno;
 use qbase::ids::ReceiveId;
+use qkernel_state::completions::{Completions, put};
 use qmodel::call::{Call, Info, Mark};
-use qstate::endings::{Endings, put};
 
 impl Kernel {
     ghost use Rattle.qkernel.specs.Stands.{InfoAtTraces};
     ghost use Rattle.qkernel.specs.Private.Caller.{MayCall, MakesOrRefuses};
 
-    /// Returns what `Info` returns of a message, but makes no call: nothing is counted, and no thread asks. `None` if
-    /// no message is held under this receive id. The process that owns the message's channel isn't checked. It serves
-    /// to hand a receiver the sender's data along with the message.
+    /// Returns the result that an `Info` would have for a held message, or `None` if no message is held under
+    /// this receive id. It isn't a call: it isn't counted and has no caller, so it doesn't check which
+    /// process owns the message's channel. It serves to give a receiver the sender's data along with the
+    /// message.
     pub fn message_info(&self, rcvid: ReceiveId) -> Option<Info>
         ensures { InfoAtTraces self.now rcvid result }
     {
@@ -21,20 +22,21 @@ impl Kernel {
         self.objects.threads.record(&sender).info()
     }
 
-    /// Answers with the data of a held message. Changes nothing, never blocks, and takes no memory.
+    /// Completes with the data of a held message and its sender. Changes nothing, never blocks, and takes no
+    /// memory.
     pub(super) fn info(
         &mut self,
-        caller: &Caller,
+        caller: &CallContext,
         rcvid: ReceiveId,
-        endings: &mut Endings,
+        completions: &mut Completions,
     ) -> Result<(), Errno>
-        requires { MayCall self.old caller.now endings.old.items }
-        ensures { MakesOrRefuses self.old caller.now (Call.Info rcvid) result endings.new.items self.new }
+        requires { MayCall self.old caller.now completions.old.items }
+        ensures { MakesOrRefuses self.old caller.now (Call.Info rcvid) result completions.new.items self.new }
     {
         let holder = self.objects.holder(caller.process, rcvid)?;
         let told = self.objects.threads.record(&holder).info();
         let info = told.ok_or(Errno::Srch)?;
-        put(endings, caller.completion(Mark::Info(info)));
+        put(completions, caller.completion(Mark::Info(info)));
         Ok(())
     }
 }

@@ -1,32 +1,33 @@
-//! PrioritySet.
+//! The call `PrioritySet`.
 
 use super::Kernel;
-use super::caller::Caller;
+use super::call_context::CallContext;
 use qbase::errno::Errno;
 use qbase::ids::ThreadNo;
 use qbase::priority::Priority;
+use qkernel_state::completions::{Completions, put};
 use qmodel::call::{Call, Mark};
-use qstate::endings::{Endings, put};
 
 impl Kernel {
     ghost use Rattle.qkernel.specs.Private.Caller.{MayCall, MakesOrRefuses};
 
-    /// Gives a thread of the caller's process another priority, and with it the message with which it is SEND-blocked.
-    /// Never blocks, and takes no memory.
+    /// Sets the priority of a thread of the caller's process, and of the message with which the thread is
+    /// SEND-blocked. Never blocks, and takes no memory.
     pub(super) fn priority_set(
         &mut self,
-        caller: &Caller,
+        caller: &CallContext,
         target: ThreadNo,
         priority: Priority,
-        endings: &mut Endings,
+        completions: &mut Completions,
     ) -> Result<(), Errno>
-        requires { MayCall self.old caller.now endings.old.items }
-        ensures { MakesOrRefuses self.old caller.now (Call.PrioritySet target priority) result endings.new.items self.new }
+        requires { MayCall self.old caller.now completions.old.items }
+        ensures { MakesOrRefuses self.old caller.now
+            (Call.PrioritySet target priority) result completions.new.items self.new }
     {
         let fellow = self.objects.fellow(caller.process, target)?;
         self.objects.requeue_unread(&fellow, priority);
         self.objects.threads.set_priority(&fellow, Some(priority));
-        put(endings, caller.completion(Mark::Ok));
+        put(completions, caller.completion(Mark::Ok));
         Ok(())
     }
 }

@@ -1,40 +1,42 @@
-//! Receive and ReceivePulse.
+//! The calls `Receive` and `ReceivePulse`.
 
 ghost use Rattle.std.specs.Prelude.{◌≡◌, []};
 ghost use Rattle.qrules.specs.Records.{receive_of};
 
 use super::Kernel;
-use super::caller::Caller;
+use super::call_context::CallContext;
 use qbase::bytes::Bytes;
 use qbase::errno::Errno;
 use qbase::ids::ChannelId;
+use qkernel_state::completions::{Completions, put};
 use qmodel::open_call::{OpenCall, OpenReceive};
 use qqueue::item::Kind;
-use qstate::endings::{Endings, put};
 
 impl Kernel {
     ghost use Rattle.qkernel.specs.Private.Caller.{MayCall, Makes};
 
-    /// Takes the best message or pulse of a channel that a receive of this kind may take, or blocks until one arrives;
-    /// takes no memory. ReceivePulse takes pulses only, and brings no buffer.
+    /// Takes an item from the channel's queue. Of the items that a receive of this kind may take, it takes
+    /// the item with the greatest priority, and among equals the item that was sent first. If there is none,
+    /// the caller blocks until such an item is sent. Takes no memory. A `ReceivePulse` takes only pulses, and
+    /// has no buffer.
     pub(super) fn receive(
         &mut self,
-        caller: &Caller,
+        caller: &CallContext,
         chid: ChannelId,
         kind: Kind,
         buffer: Bytes,
-        endings: &mut Endings,
+        completions: &mut Completions,
     )
-        requires may { MayCall self.old caller.now endings.old.items }
+        requires may { MayCall self.old caller.now completions.old.items }
         requires buffer { kind ≡ Kind.PulseOnly → buffer ≡ [] }
-        ensures { Makes self.old caller.now (receive_of kind chid buffer) endings.new.items self.new }
+        ensures { Makes self.old caller.now (receive_of kind chid buffer) completions.new.items self.new }
     {
         let objects = &mut self.objects;
         let Some(channel) = objects.channels.get_mut(chid) else {
-            return caller.refuse(endings, Errno::Srch, buffer);
+            return caller.refuse(completions, Errno::Srch, buffer);
         };
         if caller.process != channel.owner {
-            return caller.refuse(endings, Errno::Srch, buffer);
+            return caller.refuse(completions, Errno::Srch, buffer);
         }
         let Some(item) = channel.queue.take(kind) else {
             let call = OpenCall::Receive(OpenReceive {
@@ -50,6 +52,6 @@ impl Kernel {
         let priority = channel.carried(item.priority);
         let mark = objects.threads.hand_item(item, &mut buffer);
         objects.threads.set_priority(&caller.seat, priority);
-        put(endings, caller.completion_with(mark, buffer));
+        put(completions, caller.completion_with(mark, buffer));
     }
 }

@@ -1,31 +1,33 @@
-//! State.
+//! The call `State`.
 
 use super::Kernel;
-use super::caller::Caller;
+use super::call_context::CallContext;
 use qbase::errno::Errno;
 use qbase::ids::ThreadNo;
+use qkernel_state::completions::{Completions, put};
 use qmodel::call::{Call, Mark};
-use qstate::endings::{Endings, put};
 
 impl Kernel {
     ghost use Rattle.qkernel.specs.Private.Caller.{MayCall, MakesOrRefuses};
 
-    /// Answers with the state and the priority of any thread. Changes nothing, never blocks, and takes no memory.
+    /// Completes with the state and the priority of any thread of the roster. Changes nothing, never blocks,
+    /// and takes no memory.
     pub(super) fn state(
         &mut self,
-        caller: &Caller,
+        caller: &CallContext,
         target: ThreadNo,
-        endings: &mut Endings,
+        completions: &mut Completions,
     ) -> Result<(), Errno>
-        requires { MayCall self.old caller.now endings.old.items }
-        ensures { MakesOrRefuses self.old caller.now (Call.State target) result endings.new.items self.new }
+        requires { MayCall self.old caller.now completions.old.items }
+        ensures { MakesOrRefuses self.old caller.now
+            (Call.State target) result completions.new.items self.new }
     {
         let seat = self.seat(target).ok_or(Errno::Srch)?;
         let mark = Mark::State {
             state: self.objects.state(&seat),
             priority: self.objects.threads.priority(&seat),
         };
-        put(endings, caller.completion(mark));
+        put(completions, caller.completion(mark));
         Ok(())
     }
 }

@@ -1,46 +1,48 @@
-//! Unblock.
+//! The call `Unblock`.
 
 use super::Kernel;
-use super::caller::Caller;
+use super::call_context::CallContext;
 use qbase::errno::Errno;
 use qbase::ids::ThreadNo;
+use qkernel_state::cancelling::CancelSet;
+use qkernel_state::completions::{Completions, put, put_if};
 use qmodel::call::{Call, Mark};
 use qqueue::item::What;
-use qstate::cancelling::CancelSet;
-use qstate::endings::{Endings, put, put_if};
 
 impl Kernel {
     ghost use Rattle.qkernel.specs.Private.Caller.{MayCall, MakesOrRefuses};
 
-    /// Ends the call in which a thread of the caller's process is blocked, with `Intr`; but if its message is held on a
-    /// channel with the unblock flag, the call stays and the server gets a pulse, once. If the thread isn't blocked,
-    /// nothing changes. It stands for a signal or a timeout: our own profile. Never blocks, and takes memory only if
-    /// that pulse is queued.
+    /// Cancels, with `Intr`, the call that a thread of the caller's process is blocked in. But if the
+    /// thread's message is held on a channel with the unblock flag, the call stays open, and the server gets
+    /// one pulse for the message. If the thread isn't blocked, nothing changes. The call is Balsaeuchre's
+    /// own: it has the effect of a signal or a timeout. Never blocks, and takes memory only if that pulse is
+    /// queued.
     pub(super) fn unblock(
         &mut self,
-        caller: &Caller,
+        caller: &CallContext,
         target: ThreadNo,
-        endings: &mut Endings,
+        completions: &mut Completions,
     ) -> Result<(), Errno>
-        requires { MayCall self.old caller.now endings.old.items }
-        ensures { MakesOrRefuses self.old caller.now (Call.Unblock target) result endings.new.items self.new }
+        requires { MayCall self.old caller.now completions.old.items }
+        ensures { MakesOrRefuses self.old caller.now
+            (Call.Unblock target) result completions.new.items self.new }
     {
         let fellow = self.objects.fellow(caller.process, target)?;
         let Some(held) = self.objects.guarded_message(&fellow) else {
             let own = caller.completion(Mark::Ok);
             self.objects
-                .cancel(CancelSet::Of(target), Errno::Intr, own, endings);
+                .cancel(CancelSet::Of(target), Errno::Intr, own, completions);
             return Ok(());
         };
         if held.receipt.unblocked {
-            put(endings, caller.completion(Mark::Ok));
+            put(completions, caller.completion(Mark::Ok));
             return Ok(());
         }
         let pulse = caller.item(held.receipt.priority, What::Unblock(held.rcvid));
         let met = self.objects.send_pulse(held.channel, pulse)?;
         self.objects.threads.mark_unblocked(&fellow);
-        put(endings, caller.completion(Mark::Ok));
-        put_if(endings, met);
+        put(completions, caller.completion(Mark::Ok));
+        put_if(completions, met);
         Ok(())
     }
 }

@@ -1,4 +1,4 @@
--- What holds of every trace and of every lawful one, up to the facts after one more event.
+-- Statements about every history and every valid history, up to the facts after one more event.
 pub mod Before
 pub mod Best
 pub mod Channels

@@ -1,4 +1,4 @@
--- The properties of a lawful trace.
+-- The properties of a valid history.
 pub mod Different
 pub mod Receivers
 pub mod Rows

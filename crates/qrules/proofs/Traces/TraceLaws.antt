@@ -1,6 +1,6 @@
--- What the definitions of the past mean.
+-- The meaning of the definitions of the history.
 pub mod Unended
-pub mod Ending
+pub mod Completion
 pub mod Refused
 pub mod Held
 pub mod Blocked

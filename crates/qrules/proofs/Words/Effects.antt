@@ -1,5 +1,6 @@
--- What each call does, by its rule; and the items that it makes.
-use Rattle.qrules.proofs.Common.{Bool, Option, None, Some, ChannelId, ConnectionId, OpenChannel, SentItem, ThreadNo, Connection, Member, Call, PriorityChange, Transfer, effect_of}
+-- The effect of each call by its rule, and the items that calls make.
+use Rattle.qrules.proofs.Common.{Bool, Option, None, Some, ChannelId, ConnectionId, OpenChannel, SentItem, ThreadNo}
+use Rattle.qrules.proofs.Common.{Connection, Member, Call, PriorityChange, Transfer, effect_of}
 use Rattle.std.specs.Option.{option_and_then, option_map}
 use Rattle.qrules.proofs.Words.Facts.{Facts}
 use Rattle.qmodel.specs.declared.call.Call.TheVariants as calls
@@ -7,7 +8,8 @@ pub use Rattle.qrules.specs.Past.{asks}
 
 -- ---- channels and connections
 
--- the channel that a call creates: of its thread's process, with the flags that it names
+-- the channel that a call creates: its owner is the process of the calling thread, and its flags are the
+-- call's
 abbrev pub creates : Option Member → Call → Option OpenChannel
 creates member c =
     option_and_then (λ m. option_map (λ flags. record { owner = m.process; flags = flags })
@@ -17,7 +19,8 @@ creates member c =
 abbrev pub closes : Call → Option ChannelId
 closes c = (effect_of c).destroys
 
--- the connection that a call attaches: of its thread's process, to the channel that it names
+-- the connection that a call attaches: from the process of the calling thread to the channel that the call
+-- names
 abbrev pub attaches : Option Member → Call → Option Connection
 attaches member c =
     option_and_then (λ m. option_map (λ h. record { process = m.process; channel = h })
@@ -41,9 +44,9 @@ makes f t c = (effect_of c).makes f t
 abbrev pub thread_of_send : ThreadNo → Call → Option ThreadNo
 thread_of_send t c = option_map (λ s. t) (effect_of c).sends
 
--- ---- answers, and what is written
+-- ---- bytes that are written
 
--- what a call writes
+-- the Write of a call
 abbrev pub writes : Call → Option Transfer
 writes c = (effect_of c).writes
 

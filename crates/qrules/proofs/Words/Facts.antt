@@ -1,4 +1,4 @@
--- Parts of the facts, each by what was found so far, which is what the proofs split on.
+-- Parts of the facts, each a function of what was found so far. The proofs split on these.
 pub use Rattle.qrules.specs.Records.{is_in_process, is_fixed, tells_unblock, tells_disconnect}
 pub use Rattle.qrules.specs.Records.{is_for_receipt, sender_among, message_of, message_in, reply_buffer_of}
 pub use Rattle.qrules.specs.Records.{reply_buffer_in, info_of_open, buffer_of_open, held_call, with_buffer}
@@ -15,6 +15,6 @@ abbrev pub is_held_by : Facts → ThreadNo → OpenCall → Bool
 is_held_by f t (Send s) = is_some s.receipt && owns f t s.channel
 is_held_by f t (Receive r) = false
 
--- what the sender of message i waits in
+-- the open call of the sender of message i
 abbrev pub sender_call : Facts → ReceiveId → Option OpenCall
 sender_call f i = option_and_then f.open_call (sender f i)

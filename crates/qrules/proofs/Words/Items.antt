@@ -1,10 +1,14 @@
--- Items, and the receipt that a call causes, which isn't part of its answer: the facts after the call depend on
--- it.
+-- Items, and the receipt that a call causes. The receipt isn't part of the call's row, but the facts after
+-- the call depend on it.
 pub use Rattle.qrules.specs.Records.{disconnect_item, pulses_among, wait_on, is_after, is_last_wait}
 pub use Rattle.qrules.specs.Records.{is_newest, newest_receiver_among, takes_into, takes, cancel_where}
 pub use Rattle.qrules.specs.Records.{error_mark, receive_of}
 use Rattle.std.specs.Option.{option_and_then, option_map, option_map_or}
-use Rattle.qrules.proofs.Common.{ℕ, ℤ, ◌&&◌, ◌==◌, Bool, false, List, not, Option, None, Some, if◌then◌else◌, [], SentItem, CallNo, ChannelId, Priority, ReceiveId, ThreadNo, PriorityChange, buffer_of, own_completion, Receive, Send, pulse_over, Item, Kind, Any, PulseOnly, best_of, is_pulse, Connection, Call, Completion, Mark, Receipt, OpenCall, Errno, Intr, newest_receiver, receipt_completion, disconnect_pulse, guards, unblock_pulse}
+use Rattle.qrules.proofs.Common.{ℕ, ℤ, ◌&&◌, ◌==◌, Bool, false, List, not, Option, None, Some, if◌then◌else◌, []}
+use Rattle.qrules.proofs.Common.{SentItem, CallNo, ChannelId, Priority, ReceiveId, ThreadNo, PriorityChange, buffer_of}
+use Rattle.qrules.proofs.Common.{own_completion, Receive, Send, pulse_over, Item, Kind, Any, PulseOnly, best_of}
+use Rattle.qrules.proofs.Common.{is_pulse, Connection, Call, Completion, Mark, Receipt, OpenCall, Errno, Intr}
+use Rattle.qrules.proofs.Common.{newest_receiver, receipt_completion, disconnect_pulse, guards, unblock_pulse}
 use Rattle.qqueue.specs.declared.item.What.TheVariants.{Message, User}
 use Rattle.qmodel.specs.declared.call.Info.{Info}
 use Rattle.qrules.proofs.Words.Facts.{Facts, message, route, sender}
@@ -35,49 +39,51 @@ unblock_item n priority i = record { number = n; priority = priority; what = wha
 abbrev pub message_item : Facts → ThreadNo → Item
 message_item f t = message_numbered f.number (f.priority t)
 
--- ---- what a call sets and names
+-- ---- priorities that are set, and numbers
 
 -- the priority that is set for thread u
 abbrev pub priority_set_for : Option PriorityChange → ThreadNo → Option Priority
 priority_set_for setting u = option_and_then (λ s. if s.thread == u then Some s.priority else None) setting
 
--- the number is this one
+-- there is a number, and it is h
 abbrev pub names : Option ℕ → ℕ → Bool
 names number h = option_map_or (λ k. k == h) number false
 
 -- ---- receivers
 
--- the receiver of the item, if it is sent to a channel
+-- the newest receiver of the item, if it is sent to a channel
 abbrev pub receiver : Facts → Item → Option ChannelId → Option ThreadNo
 receiver f item channel = option_and_then (λ h. newest_receiver f h item) channel
 
--- ---- how open calls end
+-- ---- completions of open calls
 
--- how that receiver's call ends
+-- the completion of the receiver's call, which takes the item
 abbrev pub receipt_by : Facts → Item → List ℕ → ThreadNo → Option Completion
 receipt_by f item message r = takes item message r (f.open_call r)
 
--- the receiver's call ends, and no other
+-- the completion of the receiver's call; no other thread has one
 abbrev pub delivers : Facts → Item → List ℕ → Option ThreadNo → ThreadNo → Option Completion
 delivers f item message receiver u =
     option_and_then (λ r. if u == r then receipt_by f item message u else None) receiver
 
--- ends the call of the receiver that takes the pulse
+-- the completion of the call of the receiver that takes the pulse
 abbrev pub ends_receiver : Facts → Option SentItem → ThreadNo → Option Completion
 ends_receiver f pulse u = option_and_then (λ m. delivers f m.item [] (receiver f m.item (Some m.channel)) u)
     pulse
 
--- a call that isn't guarded is cancelled; if a pulse must be sent, its receiver's call ends
+-- if there is no pulse, the completion of the thread's call, which is cancelled unless it is guarded;
+-- otherwise the completion of the call that takes the pulse
 abbrev pub ends_unblocked : Facts → ThreadNo → Option SentItem → ThreadNo → Option Completion
 ends_unblocked f thread None u =
     cancel_where (λ o. (u == thread) && not (guards f o)) Intr u (f.open_call u)
 ends_unblocked f thread (Some m) u = ends_receiver f (Some m) u
 
--- an answer: from the reply buffer to the mark of the Send's completion and the buffer that it gives back
+-- a reply: a function of the reply buffer, which returns the result of the Send's completion and the buffer
+-- that the Send gets back
 abbrev pub Finish : Type 0
 Finish = List ℕ → Mark × List ℕ
 
--- the completion of thread u's open call with this answer, if it is a Send
+-- the completion of thread u's open call with this reply, if it is a Send
 abbrev pub answer_completion_of : Finish → ThreadNo → OpenCall → Option Completion
 answer_completion_of finish u (Send s) = Some (record {
   call = s.number;
@@ -87,23 +93,23 @@ answer_completion_of finish u (Send s) = Some (record {
 })
 answer_completion_of finish u (Receive r) = None
 
--- the same of an open call, if there is one
+-- the completion of thread u's open call with this reply, if there is an open call and it is a Send
 abbrev pub answer_completion : Finish → ThreadNo → Option OpenCall → Option Completion
 answer_completion finish u call = option_and_then (answer_completion_of finish u) call
 
--- ends the sender's call, and no other
+-- the completion of the sender's call; no other thread has one
 abbrev pub ends_sender : Facts → Finish → Option ThreadNo → ThreadNo → Option Completion
 ends_sender f finish sender u =
     option_and_then (λ s. if u == s then answer_completion finish u (f.open_call u) else None) sender
 
--- a refused call ends in its own event, with its buffer as it was
+-- the completion of a call that fails with error e, with its buffer as it was
 abbrev pub refusal_completion : Facts → ThreadNo → Call → Errno → Completion
 refusal_completion f t c e = own_completion f t (mark.Failed e) (buffer_of c)
 
 -- ---- receipts
 
--- a receipt: the item's number and channel, the thread that takes it, the thread that waits for its answer,
--- and what is kept of the receipt
+-- a receipt: the item's number and channel, the thread that takes it, the thread that waits for the reply,
+-- and the record that is kept of the receipt
 pub record Received : Type 0 where
   pub item : CallNo
   pub channel : ChannelId
@@ -122,23 +128,23 @@ receipt_in h sender priority completion =
       kept = record { priority = priority; copied = r.copied; unblocked = false };
     }) (item_in y.mark)) completion
 
--- the receipt of what is sent to channel h; a message has a sender that waits for its answer
+-- the receipt of an item that is sent to channel h; for a message, the sender waits for the reply
 abbrev pub receipt_when_sent : Facts → Option ThreadNo → Item → List ℕ → Option ChannelId → Option ThreadNo
     → Option Received
 receipt_when_sent f sender item message channel receiver =
     option_and_then (λ h. receipt_in h sender item.priority
     (option_and_then (receipt_by f item message) receiver)) channel
 
--- the receipt of a pulse that is made, if a receiver takes it
+-- the receipt of a pulse, if there is one and a receiver takes it
 abbrev pub pulse_receipt : Facts → Option SentItem → Option Received
 pulse_receipt f pulse = option_and_then
     (λ m. receipt_when_sent f None m.item [] (Some m.channel) (receiver f m.item (Some m.channel))) pulse
 
--- the completion of the call that takes the item into its buffer
+-- the completion of the call itself, which takes the item into its buffer
 abbrev pub own_receipt : Facts → ThreadNo → List ℕ → Option Item → Option Completion
 own_receipt f t buffer item = option_map (λ i. receipt_completion i (message f i.number) t f.number buffer) item
 
--- the thread that waits for the answer to an item; None for a pulse
+-- the thread that waits for the reply to an item; it is None for a pulse
 abbrev pub sender_for : Facts → Item → Option ThreadNo
 sender_for f item = if is_pulse item.what then None else sender f item.number
 
@@ -164,10 +170,10 @@ receipt_of f t (calls.Unblock thread) = pulse_receipt f (unblock_pulse f thread)
 receipt_of f t (calls.ConnectDetach coid) = pulse_receipt f (disconnect_pulse f t coid)
 receipt_of f t c = None
 
--- the completion of a call with this mark and no buffer
+-- the completion of a call with this result and no buffer
 abbrev pub ends_with : CallNo → ThreadNo → Mark → Completion
 ends_with n t mark = record { call = n; thread = t; mark = mark; buffer = [] }
 
--- the completion of the Info
+-- the completion of an Info
 abbrev pub info_completion : CallNo → ThreadNo → Info → Completion
 info_completion n t info = ends_with n t (mark.Info info)

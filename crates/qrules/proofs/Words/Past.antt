@@ -1,5 +1,9 @@
--- Searches in the list of all past calls, which has the newest event first.
-use Rattle.qrules.proofs.Common.{ℕ, ◌==◌, ◌&&◌, Bool, List, [], ◌∷◌, length, Option, None, Some, if◌then◌else◌, option_and_then, ◌+◌, is_some, CallNo, ChannelId, Priority, ThreadNo, Event, Trace, OpenChannel, SentItem, ReceiveId, number_of, facts_of, item_made_by, items_and_priorities, list_any, option_map_or, Item, Member, Completion, OpenCall, channel_of}
+-- Searches in a history, which has the newest event first.
+use Rattle.qrules.proofs.Common.{ℕ, ◌==◌, ◌&&◌, Bool, List, [], ◌∷◌, length, Option, None, Some, if◌then◌else◌}
+use Rattle.qrules.proofs.Common.{option_and_then, ◌+◌, is_some, CallNo, ChannelId, Priority, ThreadNo, Event, Trace}
+use Rattle.qrules.proofs.Common.{OpenChannel, SentItem, ReceiveId, number_of, facts_of, item_made_by}
+use Rattle.qrules.proofs.Common.{items_and_priorities, list_any, option_map_or, Item, Member, Completion, OpenCall}
+use Rattle.qrules.proofs.Common.{channel_of}
 use Rattle.qrules.proofs.Words.Facts.{count_to, is_fixed, with_buffer, held_call}
 use Rattle.qrules.proofs.Words.Items.{item_in}
 pub use Rattle.qrules.specs.Past.{accepted_at, attached_connection, channel_at, connection_at}
@@ -11,15 +15,15 @@ pub use Rattle.qrules.specs.Past.{priority_set_since, ReceivedItem}
 pub use Rattle.qrules.specs.Past.{asks, call_by_now, newest_block, open_call_by, send_by_now}
 pub use Rattle.qrules.specs.Properties.{items, priority_before}
 
--- ---- accepted, ended
+-- ---- accepted calls and completions
 
--- these endings refuse call n: one of them is of n itself, and is a failure
+-- call n fails in these completions: one of them is of call n, and is a failure
 abbrev pub refuses : List Completion → CallNo → Bool
-refuses endings n = list_any (λ x. (x.call == n) && is_failure x.mark) endings
+refuses completions n = list_any (λ x. (x.call == n) && is_failure x.mark) completions
 
--- one of these endings is of call i
+-- one of these completions is of call i
 abbrev pub has_completion_of : List Completion → CallNo → Bool
-has_completion_of endings i = list_any (λ x. x.call == i) endings
+has_completion_of completions i = list_any (λ x. x.call == i) completions
 
 -- ---- channels and connections
 
@@ -35,21 +39,21 @@ open_channels roster past = count_to (channel_at roster past) (length past)
 abbrev pub live_connections : List Member → Trace → ℕ
 live_connections roster past = count_to (connection_at roster past) (length past)
 
--- ---- searching
+-- ---- searches
 
--- how many bytes were copied of item i, if this is its receipt
+-- how many bytes of item i were copied, if this is its receipt
 abbrev pub copied_count_in : CallNo → Option ReceivedItem → Option ℕ
 copied_count_in i received = option_and_then (λ r. if r.number == i then Some r.copied else None) received
 
--- how many bytes of item i were copied by these endings, if one of them receives it
+-- how many bytes of item i were copied, if one of these completions receives it
 abbrev pub copied_count_among : List Completion → CallNo → Option ℕ
-copied_count_among endings i = first_among (λ x. copied_count_in i (item_in x.mark)) endings
+copied_count_among completions i = first_among (λ x. copied_count_in i (item_in x.mark)) completions
 
--- a call, unless it is ended
+-- the call, unless it has completed
 abbrev pub unless_ended : Trace → Option OpenCall → Option OpenCall
 unless_ended past call = option_and_then (λ o. if is_ended past (number_of o) then None else Some o) call
 
--- an open call with the present content of its reply buffer
+-- an open call with the current bytes of its reply buffer
 abbrev pub filled : Trace → OpenCall → OpenCall
 filled past o = with_buffer (with_writes past (number_of o)) o
 
@@ -73,22 +77,23 @@ priority_of_made made = option_map_or (λ m. m.item.priority) made 0
 
 -- ---- items and priorities
 
--- the priority that a receiver of the item takes: the item's, unless its channel leaves priorities as they
--- are
+-- the priority that a receiver of the item takes: the item's priority, unless its channel fixes priorities
 abbrev pub carried_priority : (ChannelId → Option OpenChannel) → Option SentItem → Option Priority
 carried_priority channel made =
     option_and_then (λ m. if is_fixed (channel m.channel) then None else Some m.item.priority) made
 
--- the priority that thread t takes by a completion, given the priority, or none, that each received item carries
+-- the priority that thread t takes by a completion, given the priority that each received item carries, if it
+-- carries one
 abbrev pub priority_from_completion : (CallNo → Option Priority) → ThreadNo → Completion → Option Priority
 priority_from_completion priority t x =
     if x.thread == t then option_and_then (λ r. priority r.number) (item_in x.mark) else None
 
--- a thread's priority: the one that an event changed it to last, or else the one in the roster
+-- a thread's priority: the priority that it got last by an event, or its priority in the roster if no event
+-- gave it one
 abbrev pub priority_of_thread : List Member → Trace → ThreadNo → Priority
 priority_of_thread roster past t = (items_and_priorities roster past).priority t
 
--- ---- the facts after all past calls
+-- ---- the facts after a history
 
 -- the item that is made, if it is for channel h
 abbrev pub made_on : ChannelId → Option SentItem → List Item
@@ -98,11 +103,11 @@ made_on h made = option_map_or (λ m. if m.channel == h then m.item ∷ [] else 
 abbrev pub item_of : List Member → Event → Trace → Option SentItem
 item_of roster e past = item_made_by (facts_of roster past) e past
 
--- the present priority of item i
+-- the current priority of item i
 abbrev pub priority_of_item : List Member → Trace → CallNo → Priority
 priority_of_item roster past i = priority_of_made (item_among (items_by_now past (items roster past)) i)
 
--- the items that are pending on channel h, in rising number
+-- the items that are queued on channel h, in rising number
 abbrev pub pending_items : List Member → Trace → ChannelId → List Item
 pending_items roster past h = pending_among past (items_by_now past (items roster past)) h
 

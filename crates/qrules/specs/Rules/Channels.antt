@@ -7,8 +7,8 @@ use Rattle.qrules.specs.Rule.{no_effect, plain_row, Rule}
 use Rattle.qrules.specs.Delivery.{cancels, is_on}
 use Rattle.qrules.specs.Words.mark
 
--- creates a channel of the caller's process, whose id is the call's number; Inval if other flags are set, or
--- else Again if 64 are open
+-- creates a channel of the caller's process, whose id is the call's number. It fails with Inval if a bit
+-- other than the three flags is set, then with Again if 64 channels are open.
 abbrev pub channel_create : ChannelFlags → Rule
 channel_create flags = record {
   row = λ f t. record (plain_row f t
@@ -17,7 +17,8 @@ channel_create flags = record {
   effect = record no_effect { creates = Some flags };
 }
 
--- ends a channel of the caller's process, and cancels each call that is blocked on it
+-- destroys a channel of the caller's process, and cancels each call that is blocked on it. It fails with
+-- Inval if the channel isn't open or is another process's.
 abbrev pub channel_destroy : ChannelId → Rule
 channel_destroy h = record {
   row = λ f t. record (plain_row f t (if owns f t h then None else Some Inval) mark.Ok)

@@ -9,8 +9,8 @@ use Rattle.qrules.specs.Delivery.{cancels, is_over, pulse_row, refusal_if_full_f
 use Rattle.qrules.specs.Words.mark
 use Rattle.qrules.specs.Words.what
 
--- attaches the caller's process to an open channel; the connection's id is the call's number; at most 1,024
--- are live
+-- attaches the caller's process to an open channel; the connection's id is the call's number. It fails with
+-- Srch if the channel isn't open, then with Again if 1,024 connections are live.
 abbrev pub connect_attach : ChannelId → Rule
 connect_attach h = record {
   row = λ f t. record (plain_row f t
@@ -20,19 +20,22 @@ connect_attach h = record {
   effect = record no_effect { attaches = Some h };
 }
 
--- how many live connections lead from c's process to c's channel
+-- how many live connections there are from c's process to c's channel
 abbrev pub connections_like : Facts → Connection → ℕ
 connections_like f c = count_to (λ k. option_and_then
     (λ d. if (d.process == c.process) && (d.channel == c.channel) then Some d else None)
     (f.connection k)) f.number
 
--- the pulse that is sent if a process detaches its last connection to a channel with the disconnect flag
+-- the disconnect pulse that a detach of connection k sends, if k is the last connection of its process to an
+-- open channel with the disconnect flag
 abbrev pub disconnect_pulse : Facts → ThreadNo → ConnectionId → Option SentItem
 disconnect_pulse f t k = option_and_then
     (λ c. if has_flag 4 (f.channel c.channel) && (connections_like f c == 1)
     then Some (new_item f (f.priority t) (what.Disconnect c.process) c.channel) else None) (f.connection k)
 
--- ends a connection of the caller's process, and cancels each Send over it
+-- detaches a connection of the caller's process, and cancels each Send over it. It fails with Inval if the
+-- connection isn't live or is another process's, then with Again if 1,024 pulses are queued where its pulse
+-- would go.
 abbrev pub connect_detach : ConnectionId → Rule
 connect_detach k = record {
   row = λ f t. pulse_row f t

@@ -9,12 +9,12 @@ use Rattle.qrules.specs.Rule.{no_effect, own_completion, own_row, plain_row, Row
 use Rattle.qrules.specs.Words.mark
 use Rattle.qmodel.specs.declared.open_call.OpenCall.TheVariants.{Receive, Send}
 
--- Srch if the message isn't held for the caller
+-- Srch if thread t doesn't hold message i
 abbrev pub refusal_unless_held : Facts → ThreadNo → ReceiveId → Option Errno
 refusal_unless_held f t i = if holds f t i then None else Some Srch
 
--- the row of a call that answers message i; answer takes the reply buffer to the mark of the Send's
--- completion and the buffer that it gives back
+-- the row of a call that replies to message i. The function answer takes the reply buffer, and returns the
+-- result of the Send's completion and the buffer that the Send gets back.
 abbrev pub answer_row : ReceiveId → (Bytes → Mark × Bytes) → Facts → ThreadNo → Row
 answer_row i answer f t = record (plain_row f t (refusal_unless_held f t i) mark.Ok) {
   others = λ u. option_and_then (λ s. if u == s then option_map (λ x. record {
@@ -32,7 +32,7 @@ reply i status bytes = record {
   effect = record no_effect { answers = Some i; replies = Some (status, bytes) };
 }
 
--- Error: answers with a code and no bytes; the code 0 is a reply of status 0
+-- Error: replies with a code and no bytes; the code 0 is a reply of status 0
 abbrev pub error : ReceiveId → ℤ → Rule
 error i code = record {
   row = answer_row i (λ buffer.
@@ -52,7 +52,7 @@ read r = record {
   effect = record no_effect { reads = Some r };
 }
 
--- Write: copies the bytes over the sender's reply buffer from the offset on; the mark has how many were
+-- Write: copies the bytes over the sender's reply buffer from the offset on; the result is how many were
 -- copied
 abbrev pub write : Transfer → Rule
 write w = record {
@@ -61,7 +61,7 @@ write w = record {
   effect = record no_effect { writes = Some w };
 }
 
--- the data of an open Send of this member, if its message is received
+-- the data of this member's open Send; None if its message hasn't been received
 abbrev pub info_of_call : Member → OpenCall → Option Info
 info_of_call m (Send s) = option_map (λ receipt. record {
   process = m.process;
@@ -74,7 +74,7 @@ info_of_call m (Send s) = option_map (λ receipt. record {
 }) s.receipt
 info_of_call m (Receive r) = None
 
--- the data of the message that this thread sent
+-- the data of the message with which this thread is REPLY-blocked
 abbrev pub info_of : Facts → Option ThreadNo → Option Info
 info_of f sender = option_and_then (λ s. option_and_then
     (λ m. option_and_then (info_of_call m) (f.open_call s)) (member_at f.roster s)) sender

@@ -1,4 +1,4 @@
--- Pulse: sends a pulse to the newest receiver, or adds it to the items that wait on the channel.
+-- Pulse: sends a pulse to the newest receiver, or queues it on the channel.
 use Rattle.std.specs.Prelude.{if◌then◌else◌}
 use Rattle.qrules.specs.Words.{int_lt, option_map, option_map_or, pos, Badf, Inval, None, Option, Some}
 use Rattle.qrules.specs.Words.{User, ℤ}
@@ -7,13 +7,13 @@ use Rattle.qrules.specs.Facts.{route, Facts}
 use Rattle.qrules.specs.Rule.{new_item, no_effect, Rule, SentItem}
 use Rattle.qrules.specs.Delivery.{pulse_row, refusal_if_full}
 
--- the pulse over connection k, with this priority
+-- the pulse that is sent over connection k, with this priority
 abbrev pub pulse_over : Facts → ConnectionId → Priority → ℤ → ℤ → Option SentItem
 pulse_over f k priority code value =
     option_map (λ c. new_item f priority (User code value) c.channel) (f.connection k)
 
--- Badf if no connection of the thread's process leads to an open channel, or else Inval if the code is below
--- 0, or else Again if 1,024 pulses are pending
+-- fails with Badf unless k is a live connection of the caller's process to an open channel. After that it
+-- fails with Inval if the code is below 0, then with Again if 1,024 pulses are queued on the channel.
 abbrev pub pulse : ConnectionId → Priority → ℤ → ℤ → Rule
 pulse k priority code value = record {
   row = λ f t. pulse_row f t (option_map_or

@@ -1,4 +1,4 @@
--- Shutdown: ends every open call, and the kernel.
+-- Shutdown: cancels every open call, and shuts the kernel down.
 use Rattle.qrules.specs.Words.{true, None, Srch}
 use Rattle.qrules.specs.Rule.{no_effect, plain_row, Rule}
 use Rattle.qrules.specs.Delivery.{cancels}

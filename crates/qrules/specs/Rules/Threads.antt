@@ -8,23 +8,25 @@ use Rattle.qrules.specs.Rule.{no_effect, plain_row, PriorityChange, Rule}
 use Rattle.qrules.specs.Words.mark
 use Rattle.qmodel.specs.declared.open_call.OpenCall.TheVariants.{Receive, Send}
 
--- sets the priority of a thread of the caller's process, and of its message that isn't received
+-- sets the priority of a thread of the caller's process, and of its message that hasn't been received. It
+-- fails with Srch if the thread isn't of that process.
 abbrev pub priority_set : PriorityChange → Rule
 priority_set change = record {
   row = λ f t. plain_row f t (if is_of_same_process f t change.thread then None else Some Srch) mark.Ok;
   effect = record no_effect { sets = Some change };
 }
 
--- SEND-blocked until the message is received, and REPLY-blocked then; RECEIVE-blocked in a receive
+-- the state of a thread in this open call: SEND-blocked until its message is received, then REPLY-blocked;
+-- RECEIVE-blocked in a receive
 abbrev pub state_in : OpenCall → ThreadState
 state_in (Send s) = if is_some s.receipt then ReplyBlocked s.channel else SendBlocked s.channel
 state_in (Receive r) = ReceiveBlocked r.channel
 
--- the state of a thread: by its open call; ready if it has none
+-- the state of a thread, by its open call; it is ready if it has none
 abbrev pub state_of : Facts → ThreadNo → ThreadState
 state_of f t = option_map_or state_in (f.open_call t) Ready
 
--- returns a thread's state and priority
+-- returns a thread's state and priority. It fails with Srch if the thread isn't in the roster.
 abbrev pub state : ThreadNo → Rule
 state u = record {
   row = λ f t. plain_row f t (if is_some (member_at f.roster u) then None else Some Srch)

@@ -1,5 +1,8 @@
--- Printed lines have no newline in them.
-use Rattle.qscript.proofs.Common.{Blocked, Bool, Completion, Event, HasLines, IsLines, IsOneLine, List, Run, [], ap, arith, call_by, codes, decimal, endings_in, false, flat_map, get_or, is_shown, length, length-append, list_all, negsuc, not, pos, refl, suc, sym, texts_from, true, with_newline, words_with_spaces, zero, ℕ, ℤ, ◌%◌, ◌++◌, ◌+◌, ◌/◌, ◌==◌, ◌∷◌, ◌≡◌}
+-- Printed lines have no newline inside.
+use Rattle.qscript.proofs.Common.{Blocked, Bool, Completion, Event, HasLines, IsLines, IsOneLine, List, Run, [], ap}
+use Rattle.qscript.proofs.Common.{arith, call_by, codes, decimal, completions_in, false, flat_map, get_or, is_shown}
+use Rattle.qscript.proofs.Common.{length, length-append, list_all, negsuc, not, pos, refl, suc, sym, texts_from, true}
+use Rattle.qscript.proofs.Common.{with_newline, words_with_spaces, zero, ℕ, ℤ, ◌%◌, ◌++◌, ◌+◌, ◌/◌, ◌==◌, ◌∷◌, ◌≡◌}
 use Rattle.std.specs.Fmt.{digit_glyph, digits_onto, digits, signed_decimal}
 use Rattle.std.proofs.lemmas.Bool.Decides.{nat_tests}
 use Rattle.std.proofs.lemmas.Grind.{flat_map-append}
@@ -11,7 +14,7 @@ use Rattle.qscript.specs.Printing.Marks.{mark_words}
 use Rattle.qscript.specs.Printing.State.{state_words}
 use Rattle.qscript.specs.Printing.Printed.{ended_words, printed}
 
--- a text without a newline, by a test
+-- a test: the text has no newline
 abbrev clean : List ℕ → Bool
 clean xs = list_all (λ b. not (b == 10)) xs
 
@@ -21,9 +24,11 @@ tested (x ∷ xs) h = grind (arith, nat_tests, tested xs)
 
 -- ---- numbers and buffers
 
-onto : (k base : ℕ) (upper : Bool) (n : ℕ) (acc : List ℕ) → clean acc ≡ true → clean (digits_onto k base upper n acc) ≡ true
+onto : (k base : ℕ) (upper : Bool) (n : ℕ) (acc : List ℕ) → clean acc ≡ true
+    → clean (digits_onto k base upper n acc) ≡ true
 onto zero base upper n acc h = h
-onto (suc k) base upper n acc h = grind (arith, nat_tests, onto k base upper (n / base) (digit_glyph upper (n % base) ∷ acc))
+onto (suc k) base upper n acc h =
+    grind (arith, nat_tests, onto k base upper (n / base) (digit_glyph upper (n % base) ∷ acc))
 
 number : (n : ℕ) → clean (decimal n) ≡ true
 unfolding digits
@@ -54,7 +59,9 @@ mark_row : (mark : Mark) → list_all clean (mark_words mark) ≡ true
 unfolding mark_words
 mark_row mark = grind (arith, number, signed)
 
-ended_line : (event : ℕ) (e : Completion) (shows : Bool) → clean (decimal event ++ words_with_spaces (decimal e.call ∷ decimal e.thread ∷ []) ++ words_with_spaces (mark_words e.mark) ++ words_with_spaces (ended_words e shows)) ≡ true
+ended_line : (event : ℕ) (e : Completion) (shows : Bool)
+    → clean (decimal event ++ words_with_spaces (decimal e.call ∷ decimal e.thread ∷ []) ++ words_with_spaces
+    (mark_words e.mark) ++ words_with_spaces (ended_words e shows)) ≡ true
 ended_line event e shows = grind (arith, list_all-append, in_row, number, mark_row e.mark, hexadecimal e.buffer)
 
 abbrev open_front : Blocked → List ℕ
@@ -65,8 +72,9 @@ open_line b = grind (arith, list_all-append, in_row, number)
 
 -- ---- lines
 
--- a line for each
-each_line : {A : Type 0} (line : A → List ℕ) → ((x : A) → clean (line x) ≡ true) → (xs : List A) → IsLines (flat_map (λ x. with_newline (line x)) xs) (length xs)
+-- a line for each element
+each_line : {A : Type 0} (line : A → List ℕ) → ((x : A) → clean (line x) ≡ true) → (xs : List A)
+    → IsLines (flat_map (λ x. with_newline (line x)) xs) (length xs)
 each_line line ok [] = record { lines = []; as_many = refl; each = tt; text_is = refl }
 each_line line ok (x ∷ xs) = let more = each_line line ok xs in record {
   lines = line x ∷ more.lines;
@@ -83,10 +91,13 @@ both a b n m first then_more = record {
   text_is = rw (first.text_is, then_more.text_is) (sym (flat_map-append with_newline first.lines then_more.lines));
 }
 
-texts_lines : (run : Run) (n : ℕ) (es : List Event) → IsLines (texts_from run n es) (endings_in es)
+texts_lines : (run : Run) (n : ℕ) (es : List Event) → IsLines (texts_from run n es) (completions_in es)
 texts_lines run n [] = record { lines = []; as_many = refl; each = tt; text_is = refl }
-texts_lines run n (e ∷ es) = both _ _ (length e.endings) (endings_in es) (each_line _ (λ x. ended_line n x (is_shown (call_by run n x.call))) e.endings) (texts_lines run (n + 1) es)
+texts_lines run n (e ∷ es) =
+    both _ _ (length e.completions) (completions_in es)
+    (each_line _ (λ x. ended_line n x (is_shown (call_by run n x.call))) e.completions) (texts_lines run (n + 1) es)
 
 pub has_lines : HasLines
 unfolding printed
-has_lines run blocked = both _ _ (endings_in run.events) (length blocked) (texts_lines run run.first run.events) (each_line open_front open_line blocked)
+has_lines run blocked = both _ _ (completions_in run.events) (length blocked) (texts_lines run run.first run.events)
+    (each_line open_front open_line blocked)

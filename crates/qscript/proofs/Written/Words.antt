@@ -1,16 +1,19 @@
--- Words that are written, read again.
-use Rattle.qscript.proofs.Common.{All, All-cons, All-nil, Bool, List, [], all_ascii_digits, ap, append-nil, arith, decimal, decimal_nonempty, digits_decimal, false, is_text, length, list_all, lt-ltb, nat_le, nat_lt, own, refl, slice_index, slice_split, slice_split_at, slice_split_none, true, words_with_spaces, ℕ, ◌&&◌, ◌++◌, ◌<◌, ◌==◌, ◌^◌, ◌∙◌, ◌∷◌, ◌≡◌}
+-- Written words are read back.
+use Rattle.qscript.proofs.Common.{All, All-cons, All-nil, Bool, List, [], all_ascii_digits, ap, append-nil, arith}
+use Rattle.qscript.proofs.Common.{decimal, decimal_nonempty, digits_decimal, false, is_text, length, list_all, lt-ltb}
+use Rattle.qscript.proofs.Common.{nat_le, nat_lt, own, refl, slice_index, slice_split, slice_split_at, slice_split_none}
+use Rattle.qscript.proofs.Common.{true, words_with_spaces, ℕ, ◌&&◌, ◌++◌, ◌<◌, ◌==◌, ◌^◌, ◌∙◌, ◌∷◌, ◌≡◌}
 use Rattle.std.proofs.lemmas.Bool.Decides.{nat_tests}
 use Rattle.std.proofs.lemmas.List.Folds.{list_all-append}
 use Rattle.std.proofs.lemmas.Str.Parse.{tells_all_ascii_digits}
-use Rattle.qreading.specs.Reading.Words.{words_of, is_blank}
-use Rattle.qreading.proofs.Texts.Words.{word_kept}
+use Rattle.qscript_text.specs.Reading.Words.{words_of, is_blank}
+use Rattle.qscript_text.proofs.Texts.Words.{word_kept}
 
--- a byte that prints and is no blank
+-- a printable byte that isn't a blank
 abbrev pub prints : ℕ → Bool
 prints b = nat_le 33 b && nat_le b 126
 
--- a word that can stand in a line
+-- a word that can occur in a line
 abbrev pub is_word : List ℕ → Bool
 is_word w = nat_lt 0 (length w) && list_all prints w
 
@@ -20,21 +23,26 @@ no_blanks : (w : List ℕ) → list_all prints w ≡ true → All (λ b. is_blan
 no_blanks [] h = All-nil (λ b. is_blank b ≡ false)
 no_blanks (x ∷ xs) h = All-cons (λ b. is_blank b ≡ false) x xs (grind (arith, nat_tests)) (no_blanks xs (grind arith))
 
--- a word alone
+-- a single word
 words_alone : (w : List ℕ) → is_word w ≡ true → words_of w ≡ w ∷ []
 unfolding words_of
-words_alone w h = rw (slice_split_none is_blank w (no_blanks w (grind arith))) (word_kept w [] (grind (arith, nat_tests)))
+words_alone w h =
+    rw (slice_split_none is_blank w (no_blanks w (grind arith))) (word_kept w [] (grind (arith, nat_tests)))
 
 -- a word before a space
 words_before : (w t : List ℕ) → is_word w ≡ true → words_of (w ++ 32 ∷ t) ≡ w ∷ words_of t
 unfolding words_of
-words_before w t h = rw (slice_split_at is_blank w 32 t (no_blanks w (grind arith)) refl) (word_kept w (slice_split is_blank t) (grind (arith, nat_tests)))
+words_before w t h =
+    rw (slice_split_at is_blank w 32 t (no_blanks w (grind arith)) refl)
+    (word_kept w (slice_split is_blank t) (grind (arith, nat_tests)))
 
--- words in a row
-pub words_in_row : (w : List ℕ) (ws : List (List ℕ)) → is_word w ≡ true → list_all is_word ws ≡ true → words_of (w ++ words_with_spaces ws) ≡ w ∷ ws
+-- a first word, and further words after spaces
+pub words_in_row : (w : List ℕ) (ws : List (List ℕ)) → is_word w ≡ true → list_all is_word ws ≡ true
+    → words_of (w ++ words_with_spaces ws) ≡ w ∷ ws
 words_in_row w [] h hs = ap words_of (append-nil w) ∙ words_alone w h
 words_in_row w (v ∷ []) h hs = words_before w v h ∙ ap (λ vs. w ∷ vs) (words_alone v (grind arith))
-words_in_row w (v ∷ next ∷ ws) h hs = words_before w (v ++ words_with_spaces (next ∷ ws)) h ∙ ap (λ vs. w ∷ vs) (words_in_row v (next ∷ ws) (grind arith) (grind arith))
+words_in_row w (v ∷ next ∷ ws) h hs = words_before w (v ++ words_with_spaces (next ∷ ws)) h
+    ∙ ap (λ vs. w ∷ vs) (words_in_row v (next ∷ ws) (grind arith) (grind arith))
 
 -- ---- the text of a line
 
@@ -47,8 +55,9 @@ row_text [] h = refl
 row_text (w ∷ []) h = grind (arith, word_text w)
 row_text (w ∷ next ∷ ws) h = grind (arith, list_all-append, word_text w, row_text (next ∷ ws))
 
--- words in a row are text
-pub line_text : (w : List ℕ) (ws : List (List ℕ)) → is_word w ≡ true → list_all is_word ws ≡ true → list_all is_text (w ++ words_with_spaces ws) ≡ true
+-- a first word, and further words after spaces, are valid text
+pub line_text : (w : List ℕ) (ws : List (List ℕ)) → is_word w ≡ true → list_all is_word ws ≡ true
+    → list_all is_text (w ++ words_with_spaces ws) ≡ true
 line_text w ws h hs = grind (arith, list_all-append, word_text w, row_text ws)
 
 -- ---- numbers
@@ -58,7 +67,8 @@ digits_print [] h = refl
 digits_print (d ∷ ds) h = grind (arith, nat_tests, tells_all_ascii_digits.parts d ds h, digits_print ds)
 
 pub number_word : (n : ℕ) → n < 2 ^ 64 → is_word (decimal n) ≡ true
-number_word n h = rw (lt-ltb 0 (length (decimal n)) (decimal_nonempty n h), digits_print (decimal n) (digits_decimal own n h)) refl
+number_word n h =
+    rw (lt-ltb 0 (length (decimal n)) (decimal_nonempty n h), digits_print (decimal n) (digits_decimal own n h)) refl
 
 -- a word of digits begins with neither a minus sign nor `#`
 first_of_digits : (ds : List ℕ) (c : ℕ) → all_ascii_digits ds ≡ true → c < 48 → 0 < c → (slice_index ds 0 == c) ≡ false

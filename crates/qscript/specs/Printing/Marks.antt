@@ -1,4 +1,4 @@
--- The words for how a call ended.
+-- The words of a result.
 use Rattle.std.specs.Prelude.{ℕ, List, [], ◌∷◌, ◌++◌, codes, decimal}
 use Rattle.std.specs.Fmt.{signed_decimal}
 use Rattle.qbase.specs.Errno.{word_of}
@@ -28,11 +28,11 @@ brought_words (Disconnect process) = codes "disconnect" ∷ decimal process ∷ 
 abbrev pub pulse_words : ℕ → ℕ → What → List (List ℕ)
 pulse_words item priority what = codes "pulse" ∷ decimal item ∷ decimal priority ∷ brought_words what
 
--- a thread's state and priority, as State returns them
+-- a thread's state and priority, which the call State returns
 abbrev pub told_words : ThreadState → ℕ → List (List ℕ)
 told_words state priority = codes "state" ∷ state_words state ++ decimal priority ∷ []
 
--- the words of a mark
+-- the words of a result
 unfoldable pub mark_words : Mark → List (List ℕ)
 mark_words marks.Ok = codes "ok" ∷ []
 mark_words (marks.Failed errno) = codes "fail" ∷ word_of errno ∷ []

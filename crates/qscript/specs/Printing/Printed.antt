@@ -13,47 +13,47 @@ use Rattle.qscript.specs.Printing.Marks.{mark_words}
 use Rattle.qscript.specs.Printing.Buffer.{buffer_words}
 use Rattle.qscript.specs.Printing.OpenLine.{open_text}
 
--- whether a call's buffer is printed when it ends: for Send, Receive and Read, which are the calls that bring
--- one
+-- whether a call's buffer is printed when the call completes: for Send, Receive and Read, the calls that have
+-- a buffer
 abbrev pub shows_buffer : Call → Bool
 shows_buffer (Send coid message reply_buffer) = true
 shows_buffer (Receive chid buffer) = true
 shows_buffer (Read rcvid offset buffer) = true
 shows_buffer other = false
 
--- the call with this number, which is that of its event, among a run's events up to the event numbered
--- `event`
+-- the call with this number among a run's events, up to the event numbered `event`; a call has the number of
+-- its event
 abbrev pub call_by : Run → ℕ → ℕ → Option Call
 call_by run event number = if nat_le run.first number && nat_le number event
     then option_map (λ e. e.call) (slice_get run.events (number - run.first)) else None
 
--- whether an ended call's buffer is printed; it isn't if the call was made before the run
+-- whether a completed call's buffer is printed; it isn't if the call was made before the run
 abbrev pub is_shown : Option Call → Bool
 is_shown None = false
 is_shown (Some call) = shows_buffer call
 
--- the words of an ended call's buffer, if it is printed
+-- the words of a completed call's buffer, if it is printed
 abbrev pub ended_words : Completion → Bool → List (List ℕ)
 ended_words e shows = if shows then buffer_words e.buffer else []
 
--- the line of an ending: the event, the ended call, its thread, its mark, and its buffer if it is printed
+-- the line of a completion: the event, the call, its thread, its result, and its buffer if it is printed
 abbrev pub ended_text : ℕ → Completion → Bool → List ℕ
 ended_text event e shows =
     decimal event ++ words_with_spaces (decimal e.call ∷ decimal e.thread ∷ [])
     ++ words_with_spaces (mark_words e.mark) ++ words_with_spaces (ended_words e shows) ++ 10 ∷ []
 
--- the line of an ending in a run
-abbrev pub ending_text : Run → ℕ → Completion → List ℕ
-ending_text run event e = ended_text event e (is_shown (call_by run event e.call))
+-- the line of a completion in a run
+abbrev pub completion_text : Run → ℕ → Completion → List ℕ
+completion_text run event e = ended_text event e (is_shown (call_by run event e.call))
 
--- a line for each ending of an event
+-- a line for each completion of an event
 abbrev pub event_text : Run → ℕ → List Completion → List ℕ
-event_text run event endings = flat_map (ending_text run event) endings
+event_text run event completions = flat_map (completion_text run event) completions
 
--- the lines of these events of a run, which are numbered from `event` on
+-- the lines of these events of a run; the first of them has the number `event`
 abbrev pub texts_from : Run → ℕ → List Event → List ℕ
 texts_from run event [] = []
-texts_from run event (e ∷ events) = event_text run event e.endings ++ texts_from run (event + 1) events
+texts_from run event (e ∷ events) = event_text run event e.completions ++ texts_from run (event + 1) events
 
 -- the lines of a run's events, and then a line for each thread that is blocked after it
 unfoldable pub printed : Run → List Blocked → List ℕ

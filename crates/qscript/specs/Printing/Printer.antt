@@ -1,4 +1,4 @@
--- The text of a run, made event by event.
+-- The text of a run, printed event by event.
 use Rattle.std.specs.Prelude.{◌≡◌, ℕ, ◌+◌, ◌-◌, ◌&&◌, nat_le, Bool, false, List, map, slice_index_or}
 use Rattle.std.specs.Prelude.{string_bytes}
 use Rattle.qrules.specs.Lawful.{event_call}
@@ -9,7 +9,7 @@ use Rattle.qkernel.specs.Kernel.{State}
 use Rattle.qscript.specs.Printing.Printed.{shows_buffer, texts_from}
 use Rattle.qscript.specs.declared.printing.printer.Printer.{Printer}
 
--- whether the buffer of an event's call is printed when it ends
+-- whether the buffer of an event's call is printed when the call completes
 abbrev pub shows_own : Event → Bool
 shows_own e = shows_buffer e.call
 
@@ -18,15 +18,13 @@ shows_own e = shows_buffer e.call
 abbrev pub shows_at : ℕ → List Bool → ℕ → Bool
 shows_at first shown number = nat_le first number && slice_index_or shown (number - first) false
 
--- the printer has the lines of all events of the run, and knows for each of its calls whether its buffer is
--- printed
+-- the printer has the lines of all events of the run, and for each of its calls whether its buffer is printed
 pub record HasPrinted (run : Run) (p : Printer) : Type 0 where
   pub first : p.first ≡ run.first
   pub shown : p.shown.items ≡ map shows_own run.events
   pub text : string_bytes p.text ≡ texts_from run run.first run.events
 
--- a kernel made these calls and thereby went from the old state to the new one, and the lines of their events
--- are printed
+-- these calls took a kernel from the old state to the new state, and the lines of their events are printed
 pub record HasRun (old : State) (calls : List (ℕ × Call)) (new : State) (p : Printer) : Type 0 where
   pub events : List Event
   pub ran : RunsAtTraces old events new

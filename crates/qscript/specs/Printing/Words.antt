@@ -1,7 +1,7 @@
 -- Words with spaces.
 use Rattle.std.specs.Prelude.{ℕ, List, [], ◌∷◌, ◌++◌}
 
--- each word behind a space
+-- each word after a space
 abbrev pub words_with_spaces : List (List ℕ) → List ℕ
 words_with_spaces [] = []
 words_with_spaces (word ∷ []) = 32 ∷ word

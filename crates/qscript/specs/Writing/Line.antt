@@ -3,15 +3,15 @@ use Rattle.std.specs.Prelude.{ℕ, List, [], ◌∷◌, ◌++◌, codes, decimal
 use Rattle.std.specs.Fmt.{signed_decimal}
 use Rattle.qtables.specs.declared.member.Member.{Member}
 use Rattle.qmodel.specs.declared.call.Call.{Call}
-use Rattle.qmodel.specs.declared.operands.Operand.{Operand}
-use Rattle.qmodel.specs.declared.operands.Operand.TheVariants as sort
+use Rattle.qmodel.specs.declared.operands.OperandKind.{OperandKind}
+use Rattle.qmodel.specs.declared.operands.OperandKind.TheVariants as sort
 use Rattle.qmodel.specs.Buffers.{buffer_of, bytes_of}
 use Rattle.qmodel.specs.Kinds.{kind_of, operands_of, script_word, sorts_of}
 use Rattle.qscript.specs.Printing.Buffer.{buffer_word}
 use Rattle.qscript.specs.Printing.Words.{words_with_spaces}
 
 -- the word for a call's operand of this sort
-abbrev pub operand_word : Call → Operand → List ℕ
+abbrev pub operand_word : Call → OperandKind → List ℕ
 operand_word c sort.Thread = decimal (operands_of c).thread
 operand_word c sort.Process = decimal (operands_of c).process
 operand_word c sort.Priority = decimal (operands_of c).priority

@@ -31,7 +31,8 @@ fn push_digits(out: &mut String, bytes: &[u8]) -> Result<(), AllocError>
 
 /// Adds a space and the bytes in lowercase hexadecimal digits, or `-` if there are none.
 pub fn push_buffer(out: &mut String, bytes: &[u8]) -> Result<(), AllocError>
-    ensures { OnOk result (string_bytes out.new ≡ string_bytes out.old ++ words_with_spaces (buffer_words bytes.now)) }
+    ensures { OnOk result (string_bytes out.new ≡ string_bytes out.old ++ words_with_spaces
+        (buffer_words bytes.now)) }
 {
     if bytes.is_empty() {
         return write!(out, " -");

@@ -1,4 +1,4 @@
-//! Prints the lines of an event: one for each call that ended in it.
+//! Prints the lines of an event: one for each of its completions.
 
 ghost use Rattle.std.specs.Prelude.{◌≡◌, ◌++◌, OnOk, string_bytes};
 ghost use Rattle.std.specs.List.{flat_map};
@@ -11,7 +11,7 @@ use crate::printing::marks::push_mark;
 use qkernel::call::{Call, Completion};
 use std::alloc::AllocError;
 
-/// Returns whether the call's buffer is printed when it ends: for Send, Receive and Read.
+/// Returns whether the call's buffer is printed when the call completes: for Send, Receive and Read.
 pub fn shows(call: &Call) -> bool
     ensures { result ≡ shows_buffer call.now }
 {
@@ -21,8 +21,8 @@ pub fn shows(call: &Call) -> bool
     )
 }
 
-/// Returns whether the buffer of the call with this number is printed. `shown` says it for the calls from the one
-/// numbered `first` on.
+/// Returns whether the buffer of the call with this number is printed. `shown` has an entry for each call
+/// from number `first` on; the buffer of any other call isn't printed.
 fn is_shown(first: u64, shown: &[bool], number: u64) -> bool
     ensures { result ≡ shows_at first shown.now number }
 {
@@ -35,46 +35,53 @@ fn is_shown(first: u64, shown: &[bool], number: u64) -> bool
     }
 }
 
-fn push_ended_buffer(out: &mut String, ending: &Completion, shows: bool) -> Result<(), AllocError>
-    ensures { OnOk result (string_bytes out.new ≡ string_bytes out.old ++ words_with_spaces (ended_words ending.now shows)) }
+fn push_ended_buffer(
+    out: &mut String,
+    completion: &Completion,
+    shows: bool,
+) -> Result<(), AllocError>
+    ensures { OnOk result (string_bytes out.new ≡ string_bytes out.old ++ words_with_spaces
+        (ended_words completion.now shows)) }
 {
     if shows {
-        return push_buffer(out, ending.buffer.as_slice());
+        return push_buffer(out, completion.buffer.as_slice());
     }
     Ok(())
 }
 
-/// Adds `EVENT CALL THREAD MARK`, the call's buffer if it is printed, and a newline.
-fn push_ending(
+/// Adds `EVENT CALL THREAD RESULT`, the call's buffer if it is printed, and a newline.
+fn push_completion(
     out: &mut String,
     event: u64,
-    ending: &Completion,
+    completion: &Completion,
     shows: bool,
 ) -> Result<(), AllocError>
-    ensures { OnOk result (string_bytes out.new ≡ string_bytes out.old ++ ended_text event ending.now shows) }
+    ensures { OnOk result (string_bytes out.new ≡ string_bytes out.old
+        ++ ended_text event completion.now shows) }
 {
-    let call = ending.call;
-    let thread = ending.thread.0;
+    let call = completion.call;
+    let thread = completion.thread.0;
     write!(out, "{event} {call} {thread}")?;
-    push_mark(out, ending.mark)?;
-    push_ended_buffer(out, ending, shows)?;
+    push_mark(out, completion.mark)?;
+    push_ended_buffer(out, completion, shows)?;
     write!(out, "\n")
 }
 
-/// Adds the lines of the event with this number. `shown` says for each call, from the one numbered `first` on, whether
-/// its buffer is printed.
-pub fn push_endings(
+/// Adds the lines of the event with this number. `shown` has an entry for each call from number `first` on:
+/// whether its buffer is printed.
+pub fn push_completions(
     out: &mut String,
     first: u64,
     shown: &[bool],
     event: u64,
-    endings: &[Completion],
+    completions: &[Completion],
 ) -> Result<(), AllocError>
-    ensures { OnOk result (string_bytes out.new ≡ string_bytes out.old ++ flat_map (λ e. ended_text event e (shows_at first shown.now e.call)) endings.now) }
+    ensures { OnOk result (string_bytes out.new ≡ string_bytes out.old ++ flat_map
+        (λ e. ended_text event e (shows_at first shown.now e.call)) completions.now) }
 {
-    'endings: for ending in endings {
-        let shows = is_shown(first, shown, ending.call);
-        push_ending(out, event, ending, shows)?;
+    'completions: for completion in completions {
+        let shows = is_shown(first, shown, completion.call);
+        push_completion(out, event, completion, shows)?;
     }
     Ok(())
 }

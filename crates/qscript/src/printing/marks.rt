@@ -1,9 +1,10 @@
-//! Prints how a call ended.
+//! Prints the result of a call.
 
 ghost use Rattle.std.specs.Prelude.{◌≡◌, [], ◌∷◌, ◌++◌, OnOk, codes, string_bytes};
 ghost use Rattle.qbase.specs.Errno.{word_of};
 ghost use Rattle.qscript.specs.Printing.Words.{words_with_spaces};
-ghost use Rattle.qscript.specs.Printing.Marks.{info_words, brought_words, pulse_words, told_words, mark_words};
+ghost use Rattle.qscript.specs.Printing.Marks.{info_words, brought_words, pulse_words, told_words};
+ghost use Rattle.qscript.specs.Printing.Marks.{mark_words};
 
 use crate::printing::operands::{number, numbers};
 use qbase::errno::{Errno, word};
@@ -13,10 +14,11 @@ use qkernel::call::{Info, Mark};
 use qqueue::item::What;
 use std::alloc::AllocError;
 
-/// Adds the words of a mark, each behind a space.
+/// Adds the words of a result, each after a space.
 #[tactic(auto, unfolding(crate::specs::Printing::Marks::mark_words))]
 pub fn push_mark(out: &mut String, mark: Mark) -> Result<(), AllocError>
-    ensures { OnOk result (string_bytes out.new ≡ string_bytes out.old ++ words_with_spaces (mark_words mark)) }
+    ensures { OnOk result (string_bytes out.new ≡ string_bytes out.old ++ words_with_spaces
+        (mark_words mark)) }
 {
     match mark {
         Mark::Ok => write!(out, " ok"),
@@ -47,7 +49,8 @@ fn push_failed(out: &mut String, errno: Errno) -> Result<(), AllocError>
 
 /// Adds `info PROCESS THREAD CONNECTION MSGLEN SRCMSGLEN DSTMSGLEN PRIORITY`.
 fn push_info(out: &mut String, info: Info) -> Result<(), AllocError>
-    ensures { OnOk result (string_bytes out.new ≡ string_bytes out.old ++ words_with_spaces (info_words info)) }
+    ensures { OnOk result (string_bytes out.new ≡ string_bytes out.old ++ words_with_spaces
+        (info_words info)) }
 {
     let process = info.process.0;
     let thread = info.thread.0;
@@ -64,17 +67,19 @@ fn push_info(out: &mut String, info: Info) -> Result<(), AllocError>
 
 /// Adds `pulse ITEM PRIORITY` and the content of the pulse.
 fn push_pulse(out: &mut String, item: u64, priority: Priority, what: What) -> Result<(), AllocError>
-    ensures { OnOk result (string_bytes out.new ≡ string_bytes out.old ++ words_with_spaces (pulse_words item priority what)) }
+    ensures { OnOk result (string_bytes out.new ≡ string_bytes out.old ++ words_with_spaces
+        (pulse_words item priority what)) }
 {
     let level = priority.get();
     write!(out, " pulse {item} {level}")?;
     push_brought(out, what)
 }
 
-/// Adds `user CODE VALUE`, `unblock RECEIVE_ID` or `disconnect PROCESS`. `What::Message` is never the content of a
-/// pulse.
+/// Adds `user CODE VALUE`, `unblock RECEIVE_ID` or `disconnect PROCESS`. `What::Message` is never the content
+/// of a pulse.
 fn push_brought(out: &mut String, what: What) -> Result<(), AllocError>
-    ensures { OnOk result (string_bytes out.new ≡ string_bytes out.old ++ words_with_spaces (brought_words what)) }
+    ensures { OnOk result (string_bytes out.new ≡ string_bytes out.old ++ words_with_spaces
+        (brought_words what)) }
 {
     match what {
         What::Message => Ok(()),
@@ -84,9 +89,11 @@ fn push_brought(out: &mut String, what: What) -> Result<(), AllocError>
     }
 }
 
-/// Adds `state ready PRIORITY`, or `state STATE CHANNEL PRIORITY` with `send`, `receive` or `reply` for STATE.
+/// Adds `state ready PRIORITY`, or `state STATE CHANNEL PRIORITY` with `send`, `receive` or `reply` for
+/// STATE.
 fn push_told(out: &mut String, state: ThreadState, priority: Priority) -> Result<(), AllocError>
-    ensures { OnOk result (string_bytes out.new ≡ string_bytes out.old ++ words_with_spaces (told_words state priority)) }
+    ensures { OnOk result (string_bytes out.new ≡ string_bytes out.old ++ words_with_spaces
+        (told_words state priority)) }
 {
     let level = u64::from(priority.get());
     write!(out, " state")?;

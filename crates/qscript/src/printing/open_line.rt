@@ -1,4 +1,4 @@
-//! Prints the line of a thread that is blocked when the run is over.
+//! Prints the line of a thread that is blocked at the end of the run.
 
 ghost use Rattle.std.specs.Prelude.{◌≡◌, ◌++◌, OnOk, string_bytes};
 ghost use Rattle.qscript.specs.Printing.Words.{words_with_spaces};
@@ -10,9 +10,10 @@ use qbase::state::ThreadState;
 use qkernel::open_call::Blocked;
 use std::alloc::AllocError;
 
-/// Adds the word of the state and its channel, each behind a space.
+/// Adds the word of the state and its channel, each after a space.
 fn push_state(out: &mut String, state: ThreadState) -> Result<(), AllocError>
-    ensures { OnOk result (string_bytes out.new ≡ string_bytes out.old ++ words_with_spaces (state_words state)) }
+    ensures { OnOk result (string_bytes out.new ≡ string_bytes out.old ++ words_with_spaces
+        (state_words state)) }
 {
     match state {
         ThreadState::Ready => write!(out, " ready"),

@@ -1,18 +1,18 @@
--- The endings of one event on their way into the cells.
+-- The completions of one event on their way into the cells.
 use Rattle.std.specs.Prelude.{◌≡◌, ℕ, true, false, if◌then◌else◌, List, ◌++◌, Some}
 use Rattle.qmodel.specs.declared.call.Completion.{Completion}
 use Rattle.qrules.specs.Trace.{gets}
-use Rattle.qhandoff.specs.declared.view.Desk.{Desk}
+use Rattle.qhandoff.specs.declared.view.KernelView.{KernelView}
 use Rattle.qhandoff.specs.Rule.{line}
 use Rattle.qshared.specs.Due.{later_of, place}
 
--- an ending may be put: its thread is one of these, and its cell is opened
-abbrev pub MayPut : List ℕ → Desk Completion → Completion → Type 0
+-- a completion may be put: its thread is in the list, and the thread's cell is opened
+abbrev pub MayPut : List ℕ → KernelView Completion → Completion → Type 0
 MayPut threads d x = (i : ℕ) × (place threads x.thread ≡ Some i) × ((line d i).opened ≡ true)
 
--- these endings of an event were put, each into its thread's cell, but for the caller's, whose cell was
--- closed instead; nothing else changes
-pub record Handed (threads : List ℕ) (caller : ℕ) (X : List Completion) (d d' : Desk Completion)
+-- the completions of an event were put into their threads' cells, except the caller's completion: the
+-- caller's cell was closed instead. Nothing else changes.
+pub record Handed (threads : List ℕ) (caller : ℕ) (X : List Completion) (d d' : KernelView Completion)
     : Type 0 where
   pub put : (t i : ℕ) → place threads t ≡ Some i
       → (line d' i).put ≡ (line d i).put ++ later_of caller t X

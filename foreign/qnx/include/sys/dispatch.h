@@ -1,5 +1,5 @@
-/* Servers that are found by name, in the same program. QNX's dispatch_* functions, and those of resource managers, are
- * missing. */
+/* Servers that clients find by name, in the same program. QNX's dispatch_* functions and the functions of
+ * resource managers are missing. */
 #pragma GCC system_header
 #ifndef BALSAEUCHRE_QNX_DISPATCH_H
 #define BALSAEUCHRE_QNX_DISPATCH_H
@@ -14,7 +14,7 @@ extern "C" {
 #define NAME_FLAG_ATTACH_GLOBAL 0x2u
 #define NAME_FLAG_DETACH_SAVEDPP 0x1u
 
-typedef struct _dispatch dispatch_t; /* nothing makes one */
+typedef struct _dispatch dispatch_t; /* no function makes one */
 
 typedef struct _name_attach {
     dispatch_t *dpp; /* null */
@@ -23,21 +23,21 @@ typedef struct _name_attach {
     int zero[2];
 } name_attach_t;
 
-/* Creates a channel that name_open finds by this name, with the flags _NTO_CHF_UNBLOCK, _NTO_CHF_DISCONNECT and
- * _NTO_CHF_COID_DISCONNECT. A global name is a local one. Returns null on an error: EINVAL (no name, or it begins with
- * / or has ..), EEXIST, ENAMETOOLONG (over 255 bytes), EBUSY (64 channels are open, or 64 names attached),
- * ENOTSUP (dpp is not null), ENOMEM. */
+/* Creates a channel that name_open finds by this name, with the flags _NTO_CHF_UNBLOCK, _NTO_CHF_DISCONNECT
+ * and _NTO_CHF_COID_DISCONNECT. A global name is the same as a local name. Returns null on an error: EINVAL
+ * (no name, or it begins with / or has ..), EEXIST, ENAMETOOLONG (over 255 bytes), EBUSY (64 channels are
+ * open, or 64 names attached), ENOTSUP (dpp is not null), ENOMEM. */
 name_attach_t *name_attach(dispatch_t *dpp, const char *path, unsigned flags);
 
-/* Takes the name back, destroys the channel and frees attach. EINVAL: attach is null, or its name is gone. */
+/* Removes the name, destroys the channel and frees attach. EINVAL: attach is null, or its name is gone. */
 int name_detach(name_attach_t *attach, unsigned flags);
 
-/* Attaches to the channel of this name and sends it an _IO_CONNECT message, which the server has to answer with EOK.
- * Returns the coid, or -1: EINVAL (no name), ENOENT (nobody has attached it), the error of the server's answer, and
- * those of ConnectAttach and MsgSend. */
+/* Attaches to the channel with this name, and sends it an _IO_CONNECT message. The server has to reply with
+ * EOK. Returns the coid, or -1: EINVAL (no name), ENOENT (no server has attached the name), the error of the
+ * server's reply, and the errors of ConnectAttach and MsgSend. */
 int name_open(const char *name, int flags);
 
-/* ConnectDetach. EINVAL. */
+/* Detaches the connection, like ConnectDetach. EINVAL. */
 int name_close(int coid);
 
 /* ---- missing */

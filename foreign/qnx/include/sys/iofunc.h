@@ -1,5 +1,5 @@
-/* For programs that include it beside sys/dispatch.h and use nothing of it: iofunc_* and thread pools are missing. A
- * program that includes sys/dispatch.h alone may have a pool of its own. */
+/* For programs that include this header with sys/dispatch.h and use nothing of it. The functions iofunc_* and
+ * thread pools are missing. A program that includes only sys/dispatch.h may have a pool of its own. */
 #pragma GCC system_header
 #ifndef BALSAEUCHRE_QNX_IOFUNC_H
 #define BALSAEUCHRE_QNX_IOFUNC_H

@@ -1,5 +1,6 @@
-/* The types and heads of QNX's input and output messages, for servers that have to tell them from their own. The
- * functions of resource managers are missing. The numbers are this project's, but for their range. */
+/* The types and heads of QNX's input and output messages, for servers that have to distinguish them from
+ * their own messages. The functions of resource managers are missing. The numbers are this project's, in
+ * QNX's range. */
 #pragma GCC system_header
 #ifndef BALSAEUCHRE_QNX_IOMSG_H
 #define BALSAEUCHRE_QNX_IOMSG_H
@@ -9,7 +10,7 @@
 struct _io_read {
     uint16_t type;
     uint16_t combine_len;
-    uint32_t nbytes; /* that are wanted */
+    uint32_t nbytes; /* the number that the client asks for */
     uint32_t xtype;
     uint32_t zero;
 };
@@ -17,7 +18,7 @@ struct _io_read {
 struct _io_write {
     uint16_t type;
     uint16_t combine_len;
-    uint32_t nbytes; /* that follow */
+    uint32_t nbytes; /* the number that follows */
     uint32_t xtype;
     uint32_t zero;
 };

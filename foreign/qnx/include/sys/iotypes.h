@@ -1,4 +1,5 @@
-/* What sys/dispatch.h has of sys/iomsg.h: a program that doesn't include the latter may have an io_read_t of its own. */
+/* The part of sys/iomsg.h that sys/dispatch.h also has. A program that doesn't include sys/iomsg.h may have
+ * an io_read_t of its own. */
 #pragma GCC system_header
 #ifndef BALSAEUCHRE_QNX_IOTYPES_H
 #define BALSAEUCHRE_QNX_IOTYPES_H
@@ -32,7 +33,7 @@
 #define _IOMGR_PRIVATE_MAX 0xffff
 #define _IO_COMBINE_FLAG 0x8000
 
-/* What an _IO_CONNECT asks for. name_open asks for _IO_CONNECT_OPEN. */
+/* The requests of an _IO_CONNECT message. name_open requests _IO_CONNECT_OPEN. */
 enum _io_connect_subtypes {
     _IO_CONNECT_COMBINE,
     _IO_CONNECT_COMBINE_CLOSE,
@@ -63,7 +64,7 @@ struct _io_connect {
     uint8_t eflag;
     uint8_t extra_type;
     uint16_t extra_len;
-    char path[1]; /* and more behind; of name_open empty */
+    char path[1]; /* and more bytes after it; name_open sends an empty path */
 };
 
 /* The head of an _IO_MSG message. */

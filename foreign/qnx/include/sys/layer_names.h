@@ -1,5 +1,5 @@
-/* The layer of threads below has some of QNX's names. Included once, this gives the layer's functions a prefix;
- * included again, it takes that back. */
+/* The layer of threads has some of QNX's names. If this header is included once, it gives the layer's
+ * functions a prefix. If it is included again, it removes the prefix. */
 #ifndef ChannelCreate
 #define ChannelCreate layer_ChannelCreate
 #define ChannelDestroy layer_ChannelDestroy

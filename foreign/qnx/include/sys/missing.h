@@ -1,5 +1,6 @@
-/* Functions of sys/neutrino.h that are missing here. A call of one is an error of the compiler, which says so. Those of
- * other headers stand there, so that a program that doesn't include them may use the names. */
+/* Functions of sys/neutrino.h that are missing here. The compiler refuses a call of such a function, and says
+ * that it is missing. The missing functions of other headers are in those headers, so a program that doesn't
+ * include them may use the names. */
 #pragma GCC system_header
 #ifndef BALSAEUCHRE_QNX_MISSING_H
 #define BALSAEUCHRE_QNX_MISSING_H
@@ -10,7 +11,7 @@
 #endif
 #endif
 #ifndef NEUTRINO_REFUSED
-#define NEUTRINO_REFUSED(text) __attribute__((error(text))) /* of gcc before 12; it does nothing for a type */
+#define NEUTRINO_REFUSED(text) __attribute__((error(text))) /* for gcc before 12; no effect on a type */
 #endif
 #if defined __cplusplus || (defined __STDC_VERSION__ && __STDC_VERSION__ >= 202311L)
 #define NEUTRINO_MISSING(name) int name(...) NEUTRINO_REFUSED("QNX's " #name " is missing in balsaeuchre")

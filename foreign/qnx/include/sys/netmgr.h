@@ -1,4 +1,4 @@
-/* Nodes: there is one, the program's own. */
+/* Nodes. There is only one node, the program's own. */
 #pragma GCC system_header
 #ifndef BALSAEUCHRE_QNX_NETMGR_H
 #define BALSAEUCHRE_QNX_NETMGR_H
@@ -7,7 +7,7 @@
 #include <sys/neutrino.h>
 #include <sys/utsname.h>
 
-/* Which parts of a node's name are wanted. The whole name is given whatever they are. */
+/* The parts of a node's name that a program asks for. It gets the whole name with any of these flags. */
 #define ND2S_DIR_SHOW 0x1u
 #define ND2S_DIR_HIDE 0x2u
 #define ND2S_QOS_SHOW 0x4u
@@ -20,13 +20,14 @@
 #define ND2S_SEP_FORCE 0x200u
 #define ND_NODE_CMP(a, b) ((a) < (b) ? -1 : (a) > (b))
 
-/* The descriptor by which another node knows a node of ours. */
+/* Returns the descriptor by which another node knows a node of ours. */
 static inline int netmgr_remote_nd(int remote_nd, int local_nd) {
     (void)remote_nd;
     return local_nd;
 }
 
-/* Writes the name of a node, which is that of the host. Returns its length with the closing 0, or -1 and EINVAL. */
+/* Writes the name of a node, which is the host's name. Returns its length with the closing 0, or -1 and
+ * EINVAL. */
 static inline int netmgr_ndtostr(unsigned flags, int nd, char *buf, size_t maxbuf) {
     struct utsname host;
     (void)flags;
@@ -36,8 +37,8 @@ static inline int netmgr_ndtostr(unsigned flags, int nd, char *buf, size_t maxbu
     return -1;
 }
 
-/* The node of this name, which may stand at the beginning of a path; *end gets what follows. -1 and ENOENT: another
- * name than the host's. */
+/* Returns the node with this name, which may be the first part of a path. *end gets the rest of the path. -1
+ * and ENOENT: the name isn't the host's. */
 static inline int netmgr_strtond(const char *name, char **end) {
     struct utsname host;
     size_t length = strcspn(name, "/");

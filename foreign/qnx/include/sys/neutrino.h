@@ -1,28 +1,37 @@
-/* QNX Neutrino's messages, pulses, channels, connections, timeouts and events, for threads of one program on Linux.
+/* QNX Neutrino's messages, pulses, channels, connections, timeouts and events, for threads of one program on
+ * Linux.
  *
- * Programs compile as they are: cc program.c $(pkg-config --cflags --libs balsaeuchre-qnx). The kernel below is proved;
- * this front, and the layer of threads between, are C: tested, not proved.
+ * QNX's programs compile as they are: cc program.c $(pkg-config --cflags --libs balsaeuchre-qnx). The kernel
+ * is proved. This front, and the layer of threads between the front and the kernel, are C: tested, not
+ * proved.
  *
- * A program's first call opens its kernel. A thread takes one of 60 places at its first call, and gives it back when it
- * ends; a call of a 61st thread waits ten seconds for one, and then fails with EAGAIN. The main thread has tid 1, if it
- * makes the first call or creates the first thread.
+ * A program's first call opens its kernel. A thread takes one of 60 places at its first call, and gives it
+ * back when it ends. A call of a 61st thread waits ten seconds for a place, and then fails with EAGAIN. The
+ * main thread has tid 1 if it makes the first call or creates the first thread.
  *
- * The calls are those of QNX's Library Reference, on the pages of the same names. What differs:
+ * The calls work as QNX's Library Reference says, on the pages of the same names, with these differences:
  *   - The whole program is one process; a pid is 0 or getpid(), and ND_LOCAL_NODE is the only node.
- *   - Priorities, 1 to 255, order what waits on a channel. Nothing is scheduled, and no busy server is boosted.
+ *   - Priorities, 1 to 255, order the queued messages and pulses of a channel. Nothing is scheduled, and no
+ *     busy server is boosted.
  *   - A receiver keeps the priority that it received with until its next receive.
- *   - At most 64 channels, 1,024 connections, and 1,024 pulses that wait on a channel: EAGAIN.
- *   - Numbers of flags, pulse codes and errors are not QNX's: sources compile, object code does not link.
+ *   - There are at most 64 channels, 1,024 connections, and 1,024 queued pulses of a channel. At these limits
+ *     calls fail with EAGAIN.
+ *   - Numbers of flags, pulse codes and errors are not QNX's: sources compile, object code doesn't link.
  *
- * A call returns -1 and sets errno on an error. Every call also fails with EAGAIN (its thread has no place), ENOMEM,
- * EOVERFLOW (2^40 calls were made, or parts are too long), EFAULT (a buffer is null and its length is not 0), and
- * EDEADLK (a signal handler makes it, and has interrupted another call of its thread; but a handler's pulse is always
- * sent, soon after, and with the usual priority if it inherits one). The forms in _r leave errno as it is: those of a
- * function that returns a number return the negative error, and the others the error or EOK.
+ * A call returns -1 and sets errno on an error. Every call also fails with:
+ *   - EAGAIN: its thread has no place;
+ *   - ENOMEM;
+ *   - EOVERFLOW: 2^40 calls were made, or parts are too long;
+ *   - EFAULT: a buffer is null and its length is not 0;
+ *   - EDEADLK: a signal handler makes the call, and has interrupted another call of its thread.
  *
- * MsgSend and MsgReceive, with their forms, are cancellation points, but for the forms in nc. A signal handler that ran
- * while a call was blocked ends it with EINTR; a client whose message is received, on a channel with _NTO_CHF_UNBLOCK,
- * stays blocked, and its server gets an unblock pulse.
+ * A signal handler's pulse is always sent, soon after its call. If it inherits a priority, it gets the usual
+ * priority (10). The forms in _r don't change errno. If the function returns a number, its form in _r returns
+ * the negative error. The other forms in _r return the error or EOK.
+ *
+ * MsgSend and MsgReceive are cancellation points, and so are their forms, except the forms in nc. A signal
+ * handler that runs while a call is blocked ends the call with EINTR. But a client whose message is received,
+ * on a channel with _NTO_CHF_UNBLOCK, stays blocked, and its server gets an unblock pulse.
  */
 #pragma GCC system_header
 #ifndef BALSAEUCHRE_QNX_NEUTRINO_H
@@ -59,9 +68,10 @@ extern "C" {
 #define _NTO_MI_BITS_DIFF 0x800
 #define _NTO_MI_BITS_64 0
 
-#define _NTO_TIMEOUT_JOIN (1 << 12) /* besides _NTO_TIMEOUT_SEND, _NTO_TIMEOUT_RECEIVE and _NTO_TIMEOUT_REPLY */
+/* A timeout ends this state, and _NTO_TIMEOUT_SEND, _NTO_TIMEOUT_RECEIVE and _NTO_TIMEOUT_REPLY. */
+#define _NTO_TIMEOUT_JOIN (1 << 12)
 
-/* States of calls that no timeout ends. TimerTimeout passes over them, if there is one that it knows. */
+/* States that no timeout ends. TimerTimeout ignores them if flags also has a state that a timeout ends. */
 #define _NTO_TIMEOUT_CONDVAR (1 << 10)
 #define _NTO_TIMEOUT_INTR (1 << 11)
 #define _NTO_TIMEOUT_MUTEX (1 << 13)
@@ -74,8 +84,9 @@ typedef int rcvid_t;
 
 /* ---- channels and connections */
 
-/* Besides _NTO_CHF_FIXED_PRIORITY, _NTO_CHF_UNBLOCK and _NTO_CHF_DISCONNECT; and flags that change nothing, since both
- * lengths are always in struct _msg_info, and all channels are the program's. */
+/* Flags of a channel, with _NTO_CHF_FIXED_PRIORITY, _NTO_CHF_UNBLOCK and _NTO_CHF_DISCONNECT. The flags
+ * without a comment change nothing, since all channels are the program's. _NTO_CHF_SENDER_LEN and
+ * _NTO_CHF_REPLY_LEN change nothing either, since both lengths are always in struct _msg_info. */
 #define _NTO_CHF_THREAD_DEATH 0x100u    /* a pulse when a thread of the program ends */
 #define _NTO_CHF_COID_DISCONNECT 0x200u /* a pulse for each connection whose channel is destroyed */
 #define _NTO_CHF_PRIVATE 0x400u
@@ -87,7 +98,7 @@ typedef int rcvid_t;
 int ChannelCreate(unsigned flags);
 int ChannelCreate_r(unsigned flags);
 
-/* Destroys a channel. MsgSend and MsgReceive on it end with ESRCH. EINVAL: no such channel. */
+/* Destroys a channel. MsgSend and MsgReceive on it are cancelled with ESRCH. EINVAL: no such channel. */
 int ChannelDestroy(int chid);
 int ChannelDestroy_r(int chid);
 
@@ -102,18 +113,18 @@ int ChannelDestroy_r(int chid);
 #define _NTO_COF_NETCON 0x80
 #define _NTO_COF_NONBLOCK 0x100
 
-/* Attaches to a channel. Returns the coid, which has the bit _NTO_SIDE_CHANNEL if index has it, or -1: ESRCH (another
- * node or process, or no such channel), EAGAIN (1,024 connections). */
+/* Attaches to a channel. Returns the coid, which has the bit _NTO_SIDE_CHANNEL if index has it, or -1: ESRCH
+ * (another node or process, or no such channel), EAGAIN (1,024 connections). */
 int ConnectAttach(uint32_t nd, pid_t pid, int chid, unsigned index, int flags);
 int ConnectAttach_r(uint32_t nd, pid_t pid, int chid, unsigned index, int flags);
 
-/* Detaches a connection; each MsgSend over it ends with EBADF. Does nothing for an scoid. EINVAL: no such connection;
- * EAGAIN: the disconnect pulse would be the 1,025th that waits. */
+/* Detaches a connection. Each MsgSend over it is cancelled with EBADF. Does nothing for an scoid. EINVAL: no
+ * such connection; EAGAIN: the disconnect pulse would be the 1,025th queued pulse of the channel. */
 int ConnectDetach(int coid);
 int ConnectDetach_r(int coid);
 
-/* Changes the flags of a connection that mask has to those of bits. Returns the old ones, or -1: ESRCH (another
- * process), EBADF (no such connection). */
+/* Sets the flags in mask of a connection to their values in bits. Returns all old flags, or -1: ESRCH
+ * (another process), EBADF (no such connection). */
 int ConnectFlags(pid_t pid, int coid, unsigned mask, unsigned bits);
 int ConnectFlags_r(pid_t pid, int coid, unsigned mask, unsigned bits);
 
@@ -134,8 +145,9 @@ struct _server_info {
     uint32_t reserved;
 };
 
-/* Fills nd, pid, chid, scoid, coid and flags of a connection, or of the next greater coid if there is no such. Returns
- * its coid, or -1: ESRCH (another process), EINVAL (there is no such nor a greater one). */
+/* Fills in nd, pid, chid, scoid, coid and flags of a connection. If there is no such connection, it takes the
+ * connection with the next greater coid. Returns the coid, or -1: ESRCH (another process), EINVAL (no
+ * connection has this coid or a greater one). */
 int ConnectServerInfo(pid_t pid, int coid, struct _server_info *info);
 int ConnectServerInfo_r(pid_t pid, int coid, struct _server_info *info);
 
@@ -156,7 +168,7 @@ struct _client_info {
     struct _cred_info cred;
 };
 
-/* Fills the process of an scoid, with at most ngroups groups. EINVAL: no such scoid. */
+/* Fills in the process of an scoid, with at most ngroups groups. EINVAL: no such scoid. */
 int ConnectClientInfo(int scoid, struct _client_info *info, int ngroups);
 int ConnectClientInfo_r(int scoid, struct _client_info *info, int ngroups);
 
@@ -172,14 +184,15 @@ static inline void neutrino_set_iov(iov_t *iov, void *base, size_t len) {
 #define GETIOVBASE(iov) ((iov)->iov_base)
 #define GETIOVLEN(iov) ((iov)->iov_len)
 
-/* An error with which MsgError has the client's MsgSend made again. It is the host's number. */
+/* With this error, MsgError has the client's MsgSend made again. The number is the host's. */
 #ifndef ERESTART
 #define ERESTART 85
 #endif
 
-/* Sends a message, and waits for the answer. Returns the status of the MsgReply, or -1: the error of the MsgError;
- * EBADF (no such connection, or its channel is destroyed, or it was detached), ESRCH (the channel was destroyed
- * meanwhile), EINTR, ETIMEDOUT. The forms in v, vs and sv take parts: of both, of the message, of the answer. */
+/* Sends a message, and waits for the reply. Returns the status of the MsgReply, or -1. Then the error is the
+ * MsgError's, or EBADF (no such connection or it was detached, or its channel is destroyed), ESRCH (the
+ * channel was destroyed meanwhile), EINTR or ETIMEDOUT. In the forms in v both the message and the reply
+ * buffer have parts, in vs only the message, and in sv only the reply buffer. */
 long MsgSend(int coid, const void *smsg, size_t sbytes, void *rmsg, size_t rbytes);
 long MsgSendv(int coid, const iov_t *siov, size_t sparts, const iov_t *riov, size_t rparts);
 long MsgSendsv(int coid, const void *smsg, size_t sbytes, const iov_t *riov, size_t rparts);
@@ -197,26 +210,27 @@ long MsgSendvnc_r(int coid, const iov_t *siov, size_t sparts, const iov_t *riov,
 long MsgSendsvnc_r(int coid, const void *smsg, size_t sbytes, const iov_t *riov, size_t rparts);
 long MsgSendvsnc_r(int coid, const iov_t *siov, size_t sparts, void *rmsg, size_t rbytes);
 
-/* Waits for a message or a pulse. Returns the rcvid of a message, or 0 for a pulse, or -1: ESRCH (no such channel, or
- * it was destroyed), EINTR, ETIMEDOUT. info, if it is not null, is filled for a message alone. Of several receivers the
- * one that waits least long is served. */
+/* Waits for a message or a pulse. Returns the rcvid of a message, or 0 for a pulse, or -1: ESRCH (no such
+ * channel, or it was destroyed), EINTR, ETIMEDOUT. info, if it isn't null, is filled in only for a message.
+ * Of several receivers the newest gets the next message or pulse. */
 rcvid_t MsgReceive(int chid, void *msg, size_t bytes, struct _msg_info *info);
 rcvid_t MsgReceivev(int chid, const iov_t *riov, size_t rparts, struct _msg_info *info);
 rcvid_t MsgReceive_r(int chid, void *msg, size_t bytes, struct _msg_info *info);
 rcvid_t MsgReceivev_r(int chid, const iov_t *riov, size_t rparts, struct _msg_info *info);
 
-/* Answers a message. ESRCH: the program holds no such message. */
+/* Replies to a message. ESRCH: the program holds no such message. */
 int MsgReply(rcvid_t rcvid, long status, const void *msg, size_t bytes);
 int MsgReplyv(rcvid_t rcvid, long status, const iov_t *riov, size_t rparts);
 int MsgReply_r(rcvid_t rcvid, long status, const void *msg, size_t bytes);
 int MsgReplyv_r(rcvid_t rcvid, long status, const iov_t *riov, size_t rparts);
 
-/* Ends the client's MsgSend with this error; EOK is a reply of status 0, and ERESTART has it sent again. ESRCH. */
+/* Ends the client's MsgSend with this error. EOK is a reply of status 0, and ERESTART has the message sent
+ * again. ESRCH. */
 int MsgError(rcvid_t rcvid, int error);
 int MsgError_r(rcvid_t rcvid, int error);
 
-/* Copy from a message, or into its client's answer, from an offset on. Return the bytes that were copied: 0 for an
- * offset past the end. -1: ESRCH. */
+/* Copy from a message, or into its client's reply buffer, from an offset on. Return the number of bytes that
+ * were copied, which is 0 for an offset past the end. -1: ESRCH. */
 ssize_t MsgRead(rcvid_t rcvid, void *msg, size_t bytes, size_t offset);
 ssize_t MsgReadv(rcvid_t rcvid, const iov_t *riov, size_t rparts, size_t offset);
 ssize_t MsgWrite(rcvid_t rcvid, const void *msg, size_t bytes, size_t offset);
@@ -226,11 +240,13 @@ ssize_t MsgReadv_r(rcvid_t rcvid, const iov_t *riov, size_t rparts, size_t offse
 ssize_t MsgWrite_r(rcvid_t rcvid, const void *msg, size_t bytes, size_t offset);
 ssize_t MsgWritev_r(rcvid_t rcvid, const iov_t *iov, size_t parts, size_t offset);
 
-/* Fills the info of a message. Its flags have _NTO_MI_UNBLOCK_REQ if its client is to be unblocked. ESRCH, EFAULT. */
+/* Fills in the info of a message. Its flags have _NTO_MI_UNBLOCK_REQ if the client is to be unblocked. ESRCH,
+ * EFAULT. */
 int MsgInfo(rcvid_t rcvid, struct _msg_info *info);
 int MsgInfo_r(rcvid_t rcvid, struct _msg_info *info);
 
-/* Says which message this thread works on. Changes nothing, as a receiver has its client's priority already. ESRCH. */
+/* Says which message this thread works on. It changes nothing, since a receiver already has its client's
+ * priority. ESRCH. */
 int MsgCurrent(rcvid_t rcvid);
 int MsgCurrent_r(rcvid_t rcvid);
 
@@ -238,9 +254,9 @@ int MsgCurrent_r(rcvid_t rcvid);
 #define _NTO_KEYDATA_VERIFY 1
 #define _NTO_KEYDATA_PATHSIGN 0x8000
 
-/* Calculates a key of data and of the private key, by a function that only this program has, into *key2; or verifies
- * *key2. Returns 0, or 1 if the data, or a key, was changed. -1: EINVAL (another oper), EFAULT (no key2), ESRCH. It
- * guards against mistakes, and is no cryptography. */
+/* Calculates a key from the data and from the private key, by a function that only this program has, and
+ * writes it to *key2. Or it verifies *key2. Returns 0, or 1 if the data or a key was changed. -1: EINVAL
+ * (another oper), EFAULT (no key2), ESRCH. The key protects against mistakes, and isn't cryptography. */
 int MsgKeyData(rcvid_t rcvid, int oper, uint32_t key, uint32_t *key2, const iov_t *iov, int parts);
 int MsgKeyData_r(rcvid_t rcvid, int oper, uint32_t key, uint32_t *key2, const iov_t *iov, int parts);
 
@@ -254,10 +270,13 @@ int MsgKeyData_r(rcvid_t rcvid, int oper, uint32_t key, uint32_t *key2, const io
 #define _PULSE_CODE_RESTART (-8)
 #define _PULSE_SUBTYPE 0
 
-/* Sends a pulse: priority 1 to 255, or SIGEV_PULSE_PRIO_INHERIT for the caller's; code -128 to 127, of which a
- * program's own are _PULSE_CODE_MINAVAIL to _PULSE_CODE_MAXAVAIL. EBADF (no such connection, or its channel is
- * destroyed), EINVAL, EAGAIN (1,024 pulses wait on the channel; or 4,096 in all that have a negative code, the code 127
- * or a value of more than 32 bits). Equal pulses are not merged. */
+/* Sends a pulse. The priority is 1 to 255, or SIGEV_PULSE_PRIO_INHERIT for the caller's. The code is -128 to
+ * 127; a program's own codes are _PULSE_CODE_MINAVAIL to _PULSE_CODE_MAXAVAIL. Equal pulses aren't merged.
+ * The errors:
+ *   - EBADF: no such connection, or its channel is destroyed;
+ *   - EINVAL: the priority or the code is out of range;
+ *   - EAGAIN: 1,024 pulses are queued on the channel. Or 4,096 pulses with a negative code, the code 127 or a
+ *     value of more than 32 bits are queued on all channels together. */
 int MsgSendPulse(int coid, int priority, int code, int value);
 int MsgSendPulsePtr(int coid, int priority, int code, void *value);
 int MsgSendPulse_r(int coid, int priority, int code, int value);
@@ -271,19 +290,24 @@ int MsgReceivePulsev_r(int chid, const iov_t *piov, size_t parts, struct _msg_in
 
 /* ---- events */
 
-/* Delivers an event that a client gave with a message, also after the answer. SIGEV_PULSE: sends its pulse;
- * SIGEV_SIGNAL, SIGEV_SIGNAL_CODE: signals the program; SIGEV_SIGNAL_THREAD, SIGEV_UNBLOCK: signals, unblocks the
- * thread that sent the message, which has to be held still; SIGEV_NONE: does nothing. EINVAL (another event, or its
- * numbers), EFAULT, ESRCH (rcvid is negative, or the message is not held), and the errors of MsgSendPulse. */
+/* Delivers an event that a client gave with a message, also after the reply:
+ *   - SIGEV_PULSE: sends the event's pulse;
+ *   - SIGEV_SIGNAL, SIGEV_SIGNAL_CODE: signals the program;
+ *   - SIGEV_SIGNAL_THREAD: signals the thread that sent the message. The message must still be held;
+ *   - SIGEV_UNBLOCK: unblocks the thread that sent the message. The message must still be held;
+ *   - SIGEV_NONE: does nothing.
+ *
+ * EINVAL (another event, or its numbers), EFAULT, ESRCH (rcvid is negative, or the message isn't held), and
+ * the errors of MsgSendPulse. */
 int MsgDeliverEvent(rcvid_t rcvid, const struct sigevent *event);
 int MsgDeliverEvent_r(rcvid_t rcvid, const struct sigevent *event);
 
-/* Returns 0 if MsgDeliverEvent would take the event. EINVAL, EFAULT; EBADF: no such connection. */
+/* Returns 0 if MsgDeliverEvent would accept the event. EINVAL, EFAULT; EBADF: no such connection. */
 int MsgVerifyEvent(rcvid_t rcvid, const struct sigevent *event);
 int MsgVerifyEvent_r(rcvid_t rcvid, const struct sigevent *event);
 
-/* Registers an event for the server of coid, or with -1 for all. Any server may deliver any event here, so it is only
- * checked: EINVAL, EFAULT, EBADF. */
+/* Registers an event for the server of coid, or for all servers if coid is -1. Here any server may deliver
+ * any event, so the event is only checked: EINVAL, EFAULT, EBADF. */
 int MsgRegisterEvent(struct sigevent *event, int coid);
 int MsgRegisterEvent_r(struct sigevent *event, int coid);
 int MsgUnregisterEvent(const struct sigevent *event);
@@ -291,27 +315,28 @@ int MsgUnregisterEvent_r(const struct sigevent *event);
 
 /* ---- timeouts and timers */
 
-/* Sets the timeout of this thread's next call, as timer_timeout of time.h does: once *ntime nanoseconds have passed and
- * it is in one of the states of flags, it ends with ETIMEDOUT; a client whose message is received on a channel with
- * _NTO_CHF_UNBLOCK stays blocked, and its server gets an unblock pulse. ntime null: it does not wait in these states.
- * _NTO_TIMEOUT_JOIN ends the next pthread_join. With TIMER_ABSTIME in flags *ntime is a time of the clock id. flags 0
- * takes the timeout back. *otime gets the timeout that this one replaces, or 0. EINVAL: no such state, an event but
- * SIGEV_UNBLOCK, another clock than CLOCK_MONOTONIC and CLOCK_REALTIME. */
+/* Sets the timeout of this thread's next call, as timer_timeout of time.h does. The call ends with ETIMEDOUT
+ * once *ntime nanoseconds have passed and it is in one of the states of flags. But a client whose message is
+ * received on a channel with _NTO_CHF_UNBLOCK stays blocked, and its server gets an unblock pulse. If ntime
+ * is null, the call doesn't wait in these states. _NTO_TIMEOUT_JOIN ends the next pthread_join. With
+ * TIMER_ABSTIME in flags, *ntime is a time of the clock id. flags 0 removes the timeout. *otime gets the
+ * timeout that is replaced, or 0. EINVAL: no such state, another event than SIGEV_UNBLOCK, another clock than
+ * CLOCK_MONOTONIC and CLOCK_REALTIME. */
 int TimerTimeout(clockid_t id, int flags, const struct sigevent *notify, const uint64_t *ntime, uint64_t *otime);
 int TimerTimeout_r(clockid_t id, int flags, const struct sigevent *notify, const uint64_t *ntime, uint64_t *otime);
 
-/* In nanoseconds. An interval of 0: the timer expires once. */
+/* Times in nanoseconds. If the interval is 0, the timer expires once. */
 struct _itimer {
     uint64_t nsec;
     uint64_t interval_nsec;
 };
 
-#define _NTO_TI_ACTIVE 0x1u   /* it has a time to expire */
-#define _NTO_TI_ABSOLUTE 0x2u /* it was set last with TIMER_ABSTIME */
+#define _NTO_TI_ACTIVE 0x1u   /* it is set to expire */
+#define _NTO_TI_ABSOLUTE 0x2u /* it was last set with TIMER_ABSTIME */
 #define _NTO_TIMER_SEARCH 0x1
 
 struct _timer_info {
-    struct _itimer itime; /* both: the time that is left, and the interval */
+    struct _itimer itime; /* both have the time that is left, and the interval */
     struct _itimer otime;
     uint32_t flags;
     int32_t tid; /* 0 */
@@ -321,9 +346,10 @@ struct _timer_info {
     struct sigevent event;
 };
 
-/* The timers of time.h: TimerCreate returns the id; an event of null is SIGALRM. TimerInfo returns the id of the timer
- * that it tells of, which with _NTO_TIMER_SEARCH may be the next one. -1: EINVAL (no such timer), EFAULT (no itime or
- * info), ESRCH (another process), and the errors of timer_create and timer_settime. */
+/* The timers of time.h. TimerCreate returns the id; a null event is SIGALRM. TimerInfo returns the id of the
+ * timer whose data it fills in. With _NTO_TIMER_SEARCH this may be the next timer. -1: EINVAL (no such
+ * timer), EFAULT (no itime or info), ESRCH (another process), and the errors of timer_create and
+ * timer_settime. */
 int TimerCreate(clockid_t id, const struct sigevent *event);
 int TimerCreate_r(clockid_t id, const struct sigevent *event);
 int TimerDestroy(timer_t id);
@@ -338,25 +364,27 @@ struct _clockperiod {
     int32_t fract; /* 0 */
 };
 
-/* Give the nanoseconds of a clock since 1970, or since it began; and the period of CLOCK_REALTIME. No program sets them:
- * EPERM if new is not null. EINVAL: no such clock; of ClockPeriod also another one, or reserved is not 0. */
+/* ClockTime gives the nanoseconds of a clock since 1970, or since the clock began. ClockPeriod gives the
+ * period of CLOCK_REALTIME. No program can set them: EPERM if the new value isn't null, but EINVAL from
+ * ClockTime for another clock than CLOCK_REALTIME. EINVAL: no such clock; from ClockPeriod also another clock
+ * than CLOCK_REALTIME, or reserved isn't 0. */
 int ClockTime(clockid_t id, const uint64_t *new_time, uint64_t *old);
 int ClockTime_r(clockid_t id, const uint64_t *new_time, uint64_t *old);
 int ClockPeriod(clockid_t id, const struct _clockperiod *new_period, struct _clockperiod *old, int reserved);
 int ClockPeriod_r(clockid_t id, const struct _clockperiod *new_period, struct _clockperiod *old, int reserved);
 
-/* Returns the clock of the processor time of the program, or of a thread (tid) of it. A clock may be negative, so there
- * is no form in _r. ESRCH: no such thread, or another program. */
+/* Returns the clock of the processor time of the program, or of its thread tid if that isn't 0. A clock may
+ * be negative, so there is no form in _r. ESRCH: no such thread, or another program. */
 int ClockId(pid_t pid, int tid);
 
 /* ---- threads */
 
-#define _NTO_THREAD_NAME_MAX 100 /* of which pthread_setname_np keeps 15 */
+#define _NTO_THREAD_NAME_MAX 100 /* pthread_setname_np keeps 15 of them */
 
 struct _thread_name {
     int32_t new_name_len; /* -1: the name stays */
-    int32_t old_name_len; /* how many bytes name_buf has for the old name; 0: it isn't wanted */
-    char name_buf[1];     /* and more behind: the new name, and then the old one with a closing 0 */
+    int32_t old_name_len; /* the bytes that name_buf has for the old name; 0: it isn't written */
+    char name_buf[1];     /* and more bytes after it: the new name, and then the old name with a closing 0 */
 };
 
 #define _NTO_TCTL_IO 1 /* these four change nothing: there is no hardware, and the host schedules */
@@ -365,45 +393,48 @@ struct _thread_name {
 #define _NTO_TCTL_RUNMASK 4
 #define _NTO_TCTL_NAME 11 /* data is a struct _thread_name */
 
-/* Controls the calling thread. EINVAL: another command; EFAULT: no data of a name; E2BIG: a name of over 100 bytes. */
+/* Controls the calling thread. EINVAL: another command; EFAULT: a name's data are null; E2BIG: a name of over
+ * 100 bytes. */
 int ThreadCtl(int cmd, void *data);
 int ThreadCtl_r(int cmd, void *data);
 
-/* Sets the priority of a thread (0: the caller), or gets it and returns its policy, which is the one last set, or
- * SCHED_RR. A tid may also be what pthread_self returned. ESRCH: another process, or no such thread; EINVAL, EFAULT. */
+/* SchedSet sets the priority of a thread (0: the caller). SchedGet gets it, and returns the policy that was
+ * last set, or SCHED_RR. A tid may also be the result of pthread_self. ESRCH: another process, or no such
+ * thread; EINVAL, EFAULT. */
 int SchedSet(pid_t pid, int tid, int policy, const struct sched_param *param);
 int SchedSet_r(pid_t pid, int tid, int policy, const struct sched_param *param);
 int SchedGet(pid_t pid, int tid, struct sched_param *param);
 int SchedGet_r(pid_t pid, int tid, struct sched_param *param);
 
 struct _sched_info {
-    uint64_t interval; /* of a time slice: 0, as nothing is scheduled here */
+    uint64_t interval; /* of a time slice: 0, since nothing is scheduled here */
     int32_t priority_min;
     int32_t priority_max;
-    int32_t priority_priv; /* the first that needs a privilege: none does */
+    int32_t priority_priv; /* the lowest priority that needs a privilege: none does */
     int32_t reserved[11];
 };
 
-/* Tells of a policy. ESRCH: another process; EINVAL: no such policy; EFAULT: no info. */
+/* Fills in the data of a policy. ESRCH: another process; EINVAL: no such policy; EFAULT: no info. */
 int SchedInfo(pid_t pid, int policy, struct _sched_info *info);
 int SchedInfo_r(pid_t pid, int policy, struct _sched_info *info);
 int SchedYield(void);
 int SchedYield_r(void);
 
-/* Nanoseconds since some time. sys/syspage.h has the rate. */
+/* Returns the nanoseconds since some time in the past. sys/syspage.h has the rate. */
 static inline uint64_t ClockCycles(void) {
     struct timespec now;
     clock_gettime(CLOCK_MONOTONIC, &now);
     return (uint64_t)now.tv_sec * 1000000000u + (uint64_t)now.tv_nsec;
 }
 
-/* ---- seeing a run; not QNX's
+/* ---- seeing a run; QNX has no such function
  *
- * SIGQUIT makes neutrino_show print to standard error, unless the program handles or ignores it. In the environment:
- * BALSAEUCHRE_RECORD=FILE.names has the run written as a script, which qdemo script runs, chart draws and --explain
- * explains; BALSAEUCHRE_CIRCLES=1 has a circle of threads that send to one another told on standard error. */
+ * SIGQUIT makes neutrino_show print to standard error, unless the program handles or ignores the signal. Two
+ * variables of the environment have an effect. BALSAEUCHRE_RECORD=FILE.names writes the run as a script:
+ * qdemo script runs it, qdemo chart draws it, and qdemo script --explain explains it. BALSAEUCHRE_CIRCLES=1
+ * reports a circle of threads that send to one another, on standard error. */
 
-/* Prints the threads, their states, and on whom they are blocked, like pidin. */
+/* Prints the threads, their states, and the threads on which they are blocked, like pidin. */
 void neutrino_show(int fd);
 
 #ifdef __cplusplus

@@ -1,4 +1,4 @@
-/* For programs that include it and use nothing of it: procmgr_* are missing. */
+/* For programs that include this header and use nothing of it. The functions procmgr_* are missing. */
 #pragma GCC system_header
 #ifndef BALSAEUCHRE_QNX_PROCMGR_H
 #define BALSAEUCHRE_QNX_PROCMGR_H

@@ -1,3 +1,4 @@
-/* For programs that include it beside sys/dispatch.h and use nothing of it: resource managers are missing. */
+/* For programs that include this header with sys/dispatch.h and use nothing of it. Resource managers are
+ * missing. */
 #pragma GCC system_header
 #include <sys/dispatch.h>

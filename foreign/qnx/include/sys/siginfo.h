@@ -6,41 +6,42 @@
 #include <signal.h>
 #include <stdint.h>
 
-/* The first shares its place with sigev_signo, as under QNX. The others lie behind what the host uses. */
+/* sigev_coid shares its place with sigev_signo, as under QNX. The other two come after the part that the host
+ * uses. */
 #define sigev_coid sigev_signo
 #define sigev_code _sigev_un._pad[10]
 #define sigev_priority _sigev_un._pad[11]
 
-/* Besides the host's SIGEV_NONE, SIGEV_SIGNAL and SIGEV_THREAD. */
+/* The types of events, with the host's SIGEV_NONE, SIGEV_SIGNAL and SIGEV_THREAD. */
 #define SIGEV_PULSE 0x6e70
 #define SIGEV_UNBLOCK 0x6e71
 #define SIGEV_SIGNAL_CODE 0x6e72
 #define SIGEV_SIGNAL_THREAD 0x6e73
-#define SIGEV_INTR 0x6e74 /* no call here takes it: there are no interrupts */
+#define SIGEV_INTR 0x6e74 /* no call here accepts it, since there are no interrupts */
 
 /* The codes that a program's own signals may have. */
 #define SI_MINAVAIL (-128)
 #define SI_MAXAVAIL (-64)
 
-/* The priority of an event's pulse: that of the thread that delivers it, or 10 of a timer. */
+/* An event's pulse with this priority gets the priority of the thread that delivers it, or 10 from a
+ * timer. */
 #define SIGEV_PULSE_PRIO_INHERIT (-1)
 
-/* Added to sigev_notify. They change nothing. */
+/* Flags in sigev_notify. They change nothing. */
 #define SIGEV_FLAG_UPDATEABLE 0x10000
 #define SIGEV_FLAG_HANDLE 0x20000
 #define SIGEV_FLAG_CRITICAL 0x40000
 #define SIGEV_FLAG_CODE_UPDATEABLE 0x80000
 #define SIGEV_FLAG_MASK 0xf0000
 #define SIGEV_GET_TYPE(event) ((event)->sigev_notify & ~SIGEV_FLAG_MASK)
-#define SIGEV_SET_TYPE(event, type) \
-    ((void)((event)->sigev_notify = ((event)->sigev_notify & SIGEV_FLAG_MASK) | (type)))
+#define SIGEV_SET_TYPE(event, type) ((void)((event)->sigev_notify = ((event)->sigev_notify & SIGEV_FLAG_MASK) | (type)))
 #define SIGEV_MAKE_UPDATEABLE(event) ((void)((event)->sigev_notify |= SIGEV_FLAG_UPDATEABLE))
 #define SIGEV_CLEAR_UPDATEABLE(event) ((void)((event)->sigev_notify &= ~SIGEV_FLAG_UPDATEABLE))
 #define SIGEV_MAKE_CODE_UPDATEABLE(event) ((void)((event)->sigev_notify |= SIGEV_FLAG_CODE_UPDATEABLE))
 #define SIGEV_MAKE_CRITICAL(event) ((void)((event)->sigev_notify |= SIGEV_FLAG_CRITICAL))
 #define SIGEV_CLEAR_CRITICAL(event) ((void)((event)->sigev_notify &= ~SIGEV_FLAG_CRITICAL))
 
-#ifdef SIGEV_NONE /* the host has struct sigevent where POSIX is asked for */
+#ifdef SIGEV_NONE /* the host has struct sigevent if the program asks for POSIX */
 static inline void neutrino_set_event(struct sigevent *event, int type, int signo_or_coid, int priority, int code,
                                       void *value) {
     event->sigev_notify = type;

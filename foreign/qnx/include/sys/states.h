@@ -1,4 +1,5 @@
-/* The states of threads, of which this kernel knows READY, SEND, RECEIVE and REPLY. The numbers are this project's. */
+/* The states of threads. This kernel knows only READY, SEND, RECEIVE and REPLY. The numbers are this
+ * project's. */
 #pragma GCC system_header
 #ifndef BALSAEUCHRE_QNX_STATES_H
 #define BALSAEUCHRE_QNX_STATES_H

@@ -1,4 +1,4 @@
-/* Of QNX's system page: the rate of ClockCycles, and the number of processors. */
+/* Two parts of QNX's system page: the rate of ClockCycles, and the number of processors. */
 #pragma GCC system_header
 #ifndef BALSAEUCHRE_QNX_SYSPAGE_H
 #define BALSAEUCHRE_QNX_SYSPAGE_H

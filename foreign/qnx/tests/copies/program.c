@@ -1,4 +1,4 @@
-/* program LIBRARY: loads a library that has a copy of the front, too, and prints what that could do. */
+/* program LIBRARY: loads a library that also has a copy of the front, and prints the results of its calls. */
 #include <dlfcn.h>
 #include <errno.h>
 #include <stdio.h>

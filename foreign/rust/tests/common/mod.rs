@@ -1,5 +1,5 @@
 //! The parts that the tests share.
-#![allow(dead_code)] // no test needs all
+#![allow(dead_code)] // no test uses all functions
 
 use balsaeuchre::{CallError, ChannelId, Port, ReceiveId, Received, Thread, ThreadState, open_array};
 use std::panic::resume_unwind;
@@ -30,7 +30,7 @@ pub fn within(test: impl FnOnce() + Send + 'static) {
     running.join().unwrap_or_else(|why| resume_unwind(why));
 }
 
-/// Makes all calls again by one thread, if they were recorded. None may be open.
+/// Makes all calls again by one thread, if they were recorded. No call may be open.
 pub fn made_again(port: &mut Port) {
     #[cfg(feature = "record")]
     println!("{} calls made again", port.made_again());

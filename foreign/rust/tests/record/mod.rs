@@ -1,5 +1,5 @@
-//! Records, for the package's own tests with the feature `record`, every call in the order of the lock and its result
-//! in each thread, and makes these calls again by one thread.
+//! A record for the package's own tests, with the feature `record`. It has every call, in the order of the
+//! lock, and the results in each thread. One thread can make these calls again.
 
 use crate::errors::{CallError, Errno, Result, outcome};
 use crate::ids::ReceiveId;
@@ -9,17 +9,18 @@ use crate::results::Info;
 use std::mem::take;
 use std::sync::Mutex;
 
-/// A call as the kernel got it, with its thread's buffer; the kernel gets only the front of that.
+/// A call as the kernel got it, with its thread's whole buffer. The kernel got only the first `seen` bytes of
+/// it.
 struct Kept {
     request: RawRequest,
     sent: Vec<u8>,
     room: Vec<u8>,
     seen: usize,
-    /// Whether it reads the rest of a message for its receiver.
+    /// Whether the call reads the rest of a message for its receiver.
     reads_on: bool,
 }
 
-/// The result of a call in its thread, and the whole buffer.
+/// The result that a thread got from a call, and its whole buffer after the call.
 #[derive(Debug, PartialEq)]
 struct Got {
     result: Result<Mark>,
@@ -34,7 +35,7 @@ pub(crate) struct Record {
 }
 
 impl Record {
-    /// Returns the record of this roster, in which the clocks follow `threads` threads.
+    /// Returns an empty record of this roster. The roster has `threads` threads, followed by the clocks.
     pub(crate) fn new(roster: &[Thread], threads: usize) -> Record {
         let got = (0..threads).map(|_| Mutex::default()).collect();
         Record { roster: roster.to_vec(), calls: Mutex::default(), got }
@@ -46,7 +47,7 @@ impl Record {
         self.keep(Kept { request, sent, room, seen, reads_on: false });
     }
 
-    /// Records that the rest of a message is read. The caller has the kernel's lock.
+    /// Records the call that reads the rest of a message. The caller has the kernel's lock.
     pub(crate) fn read_on(&self, thread: u8, rcvid: ReceiveId, room: &[u8], offset: usize) {
         let (request, ..) = Call::Read { rcvid, offset, buffer: room }.raw(thread);
         self.keep(Kept { request, sent: Vec::new(), room: room.to_vec(), seen: room.len(), reads_on: true });
@@ -65,7 +66,7 @@ impl Record {
         self.roster[self.got.len()..].iter().any(|clock| clock.thread == thread)
     }
 
-    /// Makes the calls again, and returns the right results of each thread, by its number.
+    /// Makes the calls again, and returns the results that each thread should have got, by thread number.
     fn again(&self) -> Vec<Vec<Got>> {
         let mut kernel = Kernel::new(&self.roster).unwrap();
         let mut got: Vec<Vec<Got>> = (0..256).map(|_| Vec::new()).collect();
@@ -101,7 +102,8 @@ impl Record {
     }
 }
 
-/// Returns the mark with the number of copied bytes of the message, including the rest that was read.
+/// Returns the result with the number of copied bytes that a port returns for the message. This number
+/// includes the rest that was read.
 fn with_msglen(mark: Mark, msglens: &mut [usize; 256]) -> Mark {
     match mark {
         Mark::Message { info, .. } => msglens[usize::from(info.thread)] = info.msglen,
@@ -111,7 +113,7 @@ fn with_msglen(mark: Mark, msglens: &mut [usize; 256]) -> Mark {
     mark
 }
 
-/// Adds the rest of a message that was read to the result of its receiver.
+/// Adds the rest of a message, which was read, to the result of the message's receiver.
 fn read_on(message: &mut Got, rest: Ending<'_>, msglens: &mut [usize; 256]) {
     let Got { result: Ok(Mark::Message { info, .. }), buffer } = message else { panic!("no message to read on") };
     if let Mark::Count(count) = rest.mark {
@@ -122,8 +124,8 @@ fn read_on(message: &mut Got, rest: Ending<'_>, msglens: &mut [usize; 256]) {
 }
 
 impl Port {
-    /// Makes all calls so far again by one thread on a new kernel, and panics if a thread had another result. No call
-    /// may be open. Returns the number of calls.
+    /// Makes all calls until now again, by one thread on a new kernel. Panics if a thread had another result.
+    /// No call may be open. Returns the number of calls.
     #[doc(hidden)]
     pub fn made_again(&mut self) -> usize {
         // The lock is released before a panic, which would otherwise abort the program.

@@ -1,10 +1,10 @@
-//! Tests of what the ports of a program share.
+//! Tests of the data that the ports of a program share.
 
 use super::*;
 use std::io::Read;
 use std::os::unix::net::UnixStream;
 
-/// While a thread may open the program's next socket, the last one is known, or it has ended.
+/// While a thread may open the program's next socket, the previous socket is still known, or it has ended.
 #[test]
 fn a_program_ends_under_the_lock() {
     let (socket, mut other) = UnixStream::pair().unwrap();
@@ -23,18 +23,19 @@ fn a_program_ends_under_the_lock() {
     assert_eq!(other.read(&mut [0]).unwrap(), 0);
 }
 
-/// A daemon that refuses a socket sends an answer, and closes it before the ask comes or with the ask unread.
+/// A daemon that refuses a socket sends an answer, and closes the socket before the ask comes, or without
+/// reading the ask.
 #[test]
 fn a_refusal_before_the_ask() {
     for is_asked in [false, true] {
         let (one, other) = pair();
         let refusal = Answer { error: host::EAGAIN, ..Answer::default() };
         let bytes = ptr::from_ref(&refusal).cast();
-        // SAFETY: an answer with its length.
+        // SAFETY: the pointer is an answer's, and is passed with the answer's length.
         let sent = unsafe { host::send(other.as_raw_fd(), bytes, size_of::<Answer>(), host::MSG_NOSIGNAL) };
         assert_eq!(sent, size_of::<Answer>() as isize);
         if is_asked {
-            // SAFETY: an ask with its length, which nobody reads.
+            // SAFETY: the pointer is an ask's, and is passed with the ask's length. Nothing reads the ask.
             unsafe { host::send(one.as_raw_fd(), ptr::from_ref(&Ask::default()).cast(), size_of::<Ask>(), 0) };
         }
         drop(other);
@@ -43,20 +44,22 @@ fn a_refusal_before_the_ask() {
     }
 }
 
-/// Two ends of a socket of packets.
+/// Returns the two ends of a socket of packets.
 fn pair() -> (OwnedFd, OwnedFd) {
     unsafe extern "C" {
         fn socketpair(domain: c_int, kind: c_int, protocol: c_int, ends: *mut c_int) -> c_int;
     }
     let mut ends = [0; 2];
-    // SAFETY: room for two files, which belong to nobody else.
+    // SAFETY:
+    // - `ends` has room for two files.
+    // - The files are made here, and nothing else owns them.
     unsafe {
         assert_eq!(socketpair(host::AF_UNIX, host::SOCK_SEQPACKET, 0, ends.as_mut_ptr()), 0);
         (OwnedFd::from_raw_fd(ends[0]), OwnedFd::from_raw_fd(ends[1]))
     }
 }
 
-/// The daemon's number of a program has more bits than that of a process in a kernel of one program.
+/// The daemon's number of a program has more bits than a process number in a kernel of one program.
 #[test]
 fn programs_have_whole_numbers() {
     let scoid = i32::MAX - 1;

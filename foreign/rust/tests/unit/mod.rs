@@ -1,4 +1,4 @@
-//! Tests of parts that no program can see from outside.
+//! Tests of parts that aren't visible outside the package.
 
 use crate::errors::{CallError, Errno, OpenError, outcome};
 use crate::ids::{ChannelFlags, ChannelId};

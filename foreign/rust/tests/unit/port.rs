@@ -1,4 +1,4 @@
-//! Tests of how often a port looks before it sleeps.
+//! Tests of how often a port looks at its word before it sleeps.
 
 use super::*;
 use crate::{ChannelFlags, Received};
@@ -8,10 +8,10 @@ unsafe extern "C" {
     fn sched_setaffinity(pid: i32, length: usize, processors: *const [u64; 16]) -> i32;
 }
 
-/// Leaves the calling thread, and those that it starts, one of its processors.
+/// Restricts the calling thread, and the threads that it starts, to one of its processors.
 fn stay_on_one_processor() {
     let mut processors = [0; 16];
-    // SAFETY: both get a mask and its length.
+    // SAFETY: both functions get a mask and its length.
     unsafe {
         assert!(sched_getaffinity(0, size_of_val(&processors), &mut processors) >= 0);
         let at = processors.iter().position(|word| *word != 0).unwrap();
@@ -29,7 +29,7 @@ fn looks(port: &Port) -> u32 {
     }
 }
 
-/// Makes round trips in which both sides have to wait, and returns how often each port looks afterwards.
+/// Makes round trips in which both sides have to wait. Returns each port's number of looks after them.
 fn looks_after_waiting() -> [u32; 2] {
     let [mut server, mut client] = open_array([Thread::new(1, 1, 10), Thread::new(2, 2, 20)]).unwrap();
     let channel = server.channel_create(ChannelFlags::NONE).unwrap();
@@ -68,7 +68,9 @@ fn looks_stay_within_their_bounds() {
         looks
     };
     assert_eq!([after(0, true), after(1, true), after(LOOKS, true)], [0, 3, LOOKS]);
-    // SAFETY: nobody has the place, and the buffer is empty.
+    // SAFETY:
+    // - No port has the place.
+    // - The buffer is empty.
     unsafe { place.open(Lent::of(&mut [])) };
     let least = LOOKS / 5;
     assert_eq!([after(0, false), after(1, false), after(least, false)], [0, 1, least]);

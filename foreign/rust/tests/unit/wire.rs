@@ -1,5 +1,6 @@
-//! Compares the declarations of `wire.rs`, `host.rs` and `kernel.rs` with the headers, by a program in C that prints the
-//! values of the same names. It wants a clone of the repository, and cc; the package by itself has no headers.
+//! Compares the declarations of `wire.rs`, `host.rs` and `kernel.rs` with the headers, by a program in C that
+//! prints the values of the same names. It needs cc and a clone of the repository. The package by itself has
+//! no headers, and then nothing is compared.
 
 use super::*;
 use crate::host::{self, Address, Packet, Part, Peer, Rights, User};
@@ -15,7 +16,8 @@ fn size_of_field<T, F>(_: fn(&T) -> &F) -> usize {
     size_of::<F>()
 }
 
-/// The size of a struct, and of each field its offset and its size. A field in a part of a struct is named by its way.
+/// The size of a struct, and the offset and the size of each field. A field in a part of a struct is named by
+/// its path.
 macro_rules! layout {
     ($rust:ty, $c:literal: $($($field:ident).+),+) => {{
         let mut rows: Vec<Row> = vec![(format!("sizeof({})", $c), size_of::<$rust>() as i64)];
@@ -70,7 +72,8 @@ fn constants() -> Vec<Row> {
                 _PULSE_CODE_UNBLOCK: CODE_UNBLOCK, _PULSE_CODE_DISCONNECT: CODE_DISCONNECT),
         vec![("_NTO_TIMEOUT_SEND | _NTO_TIMEOUT_RECEIVE | _NTO_TIMEOUT_REPLY".to_string(), TIMED_STATES.into())],
         same!(host: AF_UNIX, SOCK_SEQPACKET, SOCK_CLOEXEC, SOL_SOCKET, SO_PEERCRED, SCM_RIGHTS, SHUT_RDWR, MSG_PEEK,
-              MSG_DONTWAIT, MSG_NOSIGNAL, MSG_CMSG_CLOEXEC, PROT_READ, PROT_WRITE, MAP_SHARED, MADV_DONTFORK, AT_SECURE),
+              MSG_DONTWAIT, MSG_NOSIGNAL, MSG_CMSG_CLOEXEC, PROT_READ, PROT_WRITE, MAP_SHARED, MADV_DONTFORK,
+              AT_SECURE),
         values!(FUTEX_WAIT: host::FUTEX_WAIT, SYS_gettid: host::SYS_GETTID, SYS_futex: host::SYS_FUTEX),
         same!(host: ENOENT, ESRCH, EINTR, EBADF, EAGAIN, ENOMEM, EBUSY, EEXIST, EOVERFLOW, ESHUTDOWN, ETIMEDOUT),
     ]
@@ -83,7 +86,7 @@ fn kinds() -> Vec<Row> {
     rows.into_iter().map(|(name, value)| (format!("BALSAEUCHRE_{name}"), value)).collect()
 }
 
-/// Returns what C has in place of the rows' values.
+/// Returns the values that C has for the rows.
 fn printed(foreign: &Path, rows: &[Row]) -> Vec<i64> {
     let folder = env::temp_dir().join(format!("balsaeuchre-wire-{}", std::process::id()));
     fs::create_dir_all(&folder).unwrap();
@@ -100,7 +103,8 @@ fn printed(foreign: &Path, rows: &[Row]) -> Vec<i64> {
 }
 
 const HEAD: &str = "#define _GNU_SOURCE\n\
-    #include <errno.h>\n#include <linux/futex.h>\n#include <pwd.h>\n#include <stdio.h>\n#include <sys/auxv.h>\n#include <sys/mman.h>\n#include <sys/socket.h>\n\
+    #include <errno.h>\n#include <linux/futex.h>\n#include <pwd.h>\n#include <stdio.h>\n\
+    #include <sys/auxv.h>\n#include <sys/mman.h>\n#include <sys/socket.h>\n\
     #include <sys/syscall.h>\n#include <sys/uio.h>\n#include <sys/un.h>\n#include \"wire.h\"\n\
     struct rights { size_t cmsg_len; int cmsg_level, cmsg_type, files[2]; };\n\
     _Static_assert(sizeof(struct cmsghdr) == offsetof(struct rights, files), \"files follow the head\");\n";

@@ -5,7 +5,7 @@ use Rattle.qkernel.proofs.run.run_all.Given as goal
 abbrev pub invariant-loop-next : goal.invariant-loop-next
 invariant-loop-next l = record {
   running : Running l.fn.kernel l.fn.calls.items l.kernel l.log (reverse l.calls.items);
-  emptied : l.endings.items ≡ [];
+  emptied : l.completions.items ≡ [];
 }
 
 abbrev pub decreases-loop-next : goal.decreases-loop-next

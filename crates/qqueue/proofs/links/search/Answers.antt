@@ -28,7 +28,8 @@ loop-key-preserved c =
     )
 
 found_there : (c : goal.Then-node-number) → get c.args.nodes.now c.in-Some.key ≡ Some c.in-Some.node.now
-found_there c = let at = c.in-Some.ensures.steps in c.loop-key.invariant.3 c.in-Some.key c.in-Some.node.now (rw at (0, omega arith, refl))
+found_there c = let at = c.in-Some.ensures.steps in
+    c.loop-key.invariant.3 c.in-Some.key c.in-Some.node.now (rw at (0, omega arith, refl))
 
 pub returns-then-node-number-clause-found : goal.returns-then-node-number-clause-found
 returns-then-node-number-clause-found c = rw (found_there c) c.if-node-number.true

@@ -4,7 +4,7 @@ use Rattle.qrules.proofs.Words.Items.{info_completion, item_in}
 use Rattle.qmodel.specs.declared.call.Info.{Info as Told}
 use Rattle.qrules.proofs.Traces.Past.Laws.{IsOwn}
 
--- its completion is its own, and no receipt
+-- its completion is its own, and receives no item
 pub record IsPlain (n t : ℕ) (y : Completion) : Type 0 where
   pub own : IsOwn n t y
   pub mark : item_in y.mark ≡ None

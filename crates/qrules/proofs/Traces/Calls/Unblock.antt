@@ -1,17 +1,20 @@
 -- The laws of Unblock.
-use Rattle.qrules.proofs.Common.{arith, ◌≡◌, ℕ, ap, sym, eqb, Bool, true, false, unblock_pulse, guards, tells_unblock, Send, is_pulse, row_of, OpenChannel, SentItem, refusal_if_full_for, Unblock, OpenCall, Receipt, Option, None, Some, is_some, not, ◌&&◌}
+use Rattle.qrules.proofs.Common.{arith, ◌≡◌, ℕ, ap, sym, eqb, Bool, true, false, unblock_pulse, guards, tells_unblock}
+use Rattle.qrules.proofs.Common.{Send, is_pulse, row_of, OpenChannel, SentItem, refusal_if_full_for, Unblock, OpenCall}
+use Rattle.qrules.proofs.Common.{Receipt, Option, None, Some, is_some, not, ◌&&◌}
 use Rattle.qrules.proofs.Words.Items.{unblock_item}
 use Rattle.qrules.proofs.Traces.Parts.{due_pulse_of_open}
 use Rattle.qrules.proofs.Words.Facts.{Facts}
 use Rattle.qmodel.specs.declared.open_call.OpenSend.{OpenSend}
 
--- ---- the pulse that is due
+-- ---- the unblock pulse
 
--- a channel that tells anything is open
+-- a channel with the unblock flag is open
 pub tells_open : (o : Option OpenChannel) → tells_unblock o ≡ true → is_some o ≡ true
 tells_open o e = grind arith
 
--- the item is the pulse for the message that the open call waits with, which is held on a channel with the unblock flag and has had none
+-- the item is the first unblock pulse for the message of this open Send, which is held on a channel with the
+-- unblock flag
 pub record IsDue (f : Facts) (o : Option OpenCall) (m : SentItem) : Type 0 where
   pub send : OpenSend
   pub is : o ≡ Some (Send send)
@@ -24,16 +27,18 @@ pub record IsDue (f : Facts) (o : Option OpenCall) (m : SentItem) : Type 0 where
 pub due_parts : (f : Facts) (o : Option OpenCall) (m : SentItem) → due_pulse_of_open f o ≡ Some m → IsDue f o m
 due_parts f o m e = grind arith
 
--- it is a pulse
-pub due_is_pulse : (f : Facts) (thread : ℕ) (m : SentItem) → unblock_pulse f thread ≡ Some m → is_pulse m.item.what ≡ true
+-- the item is a pulse
+pub due_is_pulse : (f : Facts) (thread : ℕ) (m : SentItem) → unblock_pulse f thread ≡ Some m
+    → is_pulse m.item.what ≡ true
 due_is_pulse f thread m e = ap (λ x. is_pulse x.item.what) (sym (due_parts f (f.open_call thread) m e).made)
 
--- an accepted Unblock is of a thread of the caller's process, and finds room for its pulse
-pub fellow_passes : (f : Facts) (t thread : ℕ) → (row_of f t (Unblock thread)).refusal ≡ None → refusal_if_full_for f (unblock_pulse f thread) ≡ None
+-- for an accepted Unblock, there is room for its pulse
+pub fellow_passes : (f : Facts) (t thread : ℕ) → (row_of f t (Unblock thread)).refusal ≡ None
+    → refusal_if_full_for f (unblock_pulse f thread) ≡ None
 fellow_passes f t thread r = grind arith
 
 -- ---- the laws
 
--- this is so of a wait that is cancelled
+-- the Unblock cancels this open call
 abbrev pub is_cancelled : Facts → ℕ → ℕ → OpenCall → Bool
 is_cancelled f thread v o = eqb v thread && not (guards f o)

@@ -1,4 +1,4 @@
--- What a row comes to where it receives or delivers an item.
+-- Rows that receive or deliver an item.
 pub mod Receiving
 pub mod Delivering
 pub mod Telling

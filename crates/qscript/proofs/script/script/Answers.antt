@@ -1,10 +1,10 @@
 use Rattle.qscript.proofs.Common.{length, not_too_long, ◌≡◌, ◌≤◌}
 use Rattle.std.proofs.lemmas.Result.{err_from_is_err_and}
-use Rattle.qreading.specs.declared.fault.ScriptFault.TheVariants.{TooLong}
+use Rattle.qscript_text.specs.declared.fault.ScriptFault.TheVariants.{TooLong}
 use Rattle.qscript.proofs.Runnable.{can_run}
 use Rattle.qscript.proofs.script.script.Goals as goal
 
--- a text that was read whole fits
+-- a text that was read whole isn't too long
 pub returns-in_err-script-clause-too_long : goal.returns-in_err-script-clause-too_long
 returns-in_err-script-clause-too_long g c e =
     let q = err_from_is_err_and c.from_residual-in_err-script.result c.from_residual-in_err-script.ensures.1 in

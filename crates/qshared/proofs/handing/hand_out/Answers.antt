@@ -1,45 +1,59 @@
-use Rattle.qshared.proofs.Common.{◌≡◌, ◌<◌, length, sym, ap, subst, ◌∙◌, arith, eqb, true, false, refl, rules, None, Some, common_steps, eqb-true, same_Some, threads_of, members_of, desk, line, place}
+use Rattle.qshared.proofs.Common.{◌≡◌, ◌<◌, length, sym, ap, subst, ◌∙◌, arith, eqb, true, false, refl, rules, None}
+use Rattle.qshared.proofs.Common.{Some, common_steps, eqb-true, same_Some, threads_of, members_of, kernel_view, line}
+use Rattle.qshared.proofs.Common.{place}
 use Rattle.qshared.proofs.Puts.{Handing, handing_start, handing_next, handing_more, handing_own}
 use Rattle.qshared.proofs.handing.hand_out.Goals as goal
 
 pub cancel-requires-clause-opened : goal.cancel-requires-clause-opened
 cancel-requires-clause-opened c =
     let ts = threads_of (members_of c.args.kernel.now.threads) in
-    let handing = rw c.in-Some.ensures.items at c.loop-ending.invariant.handing in
+    let handing = rw c.in-Some.ensures.items at c.loop-completion.invariant.handing in
     let may = handing_next _ _ _ _ _ _ _ _ handing c.requires.apart c.requires.may in
-    let caller : c.in-Some.ending.thread ≡ c.args.turn.now.seat.thread = eqb-true c.in-Some.ending.thread c.args.turn.now.seat.thread (search rules) in
-    let same : may.0 ≡ c.index-own_place.result = same_Some _ _ (sym may.1 ∙ ap (place ts) caller ∙ c.requires.place ∙ ap Some (sym c.index-own_place.ensures)) in
-    ap (λ k. (line (desk c.loop-ending.seat) k).opened) (sym same) ∙ may.2
+    let caller : c.in-Some.completion.thread ≡ c.args.scratch.now.seat.thread =
+    eqb-true c.in-Some.completion.thread c.args.scratch.now.seat.thread (search rules) in
+    let same : may.0 ≡ c.index-own_place.result =
+    same_Some _ _ (sym may.1 ∙ ap (place ts) caller ∙ c.requires.place ∙ ap Some (sym c.index-own_place.ensures)) in
+    ap (λ k. (line (kernel_view c.loop-completion.seat) k).opened) (sym same) ∙ may.2
 
-pub loop-ending-preserved-then-eq : goal.loop-ending-preserved-then-eq
-loop-ending-preserved-then-eq c =
-    let handing = rw c.in-Some.ensures.items at c.loop-ending.invariant.handing in
-    let caller : eqb c.in-Some.ending.thread c.thread-thread.result ≡ true = search rules in
-    let near : c.index-own_place.result < length (desk c.loop-ending.seat).lines = search rules in
+pub loop-completion-preserved-then-eq : goal.loop-completion-preserved-then-eq
+loop-completion-preserved-then-eq c =
+    let handing = rw c.in-Some.ensures.items at c.loop-completion.invariant.handing in
+    let caller : eqb c.in-Some.completion.thread c.thread-thread.result ≡ true = search rules in
+    let near : c.index-own_place.result < length (kernel_view c.loop-completion.seat).lines = search rules in
     record {
-      cells = c.cancel.ensures.cells ∙ c.loop-ending.invariant.cells;
-      handing = rw c.cancel.ensures.desk (handing_own _ _ _ _ _ _ _ _ handing c.index-own_place.result near c.requires.apart caller (ap (place (threads_of (members_of c.args.kernel.now.threads))) c.thread-thread.ensures ∙ c.requires.place ∙ ap Some (sym c.index-own_place.ensures)));
+      cells = c.cancel.ensures.cells ∙ c.loop-completion.invariant.cells;
+      handing =
+          rw c.cancel.ensures.kernel_view
+          (handing_own _ _ _ _ _ _ _ _ handing c.index-own_place.result near c.requires.apart caller
+          (ap (place (threads_of (members_of c.args.kernel.now.threads))) c.thread-thread.ensures ∙ c.requires.place
+          ∙ ap Some (sym c.index-own_place.ensures)));
     }
 
 pub hand_one-place-requires-clause-may : goal.hand_one-place-requires-clause-may
 hand_one-place-requires-clause-may c =
-    let handing = rw c.in-Some.ensures.items at c.loop-ending.invariant.handing in
+    let handing = rw c.in-Some.ensures.items at c.loop-completion.invariant.handing in
     handing_next _ _ _ _ _ _ _ _ handing c.requires.apart c.requires.may
 
-pub loop-ending-preserved : goal.loop-ending-preserved
-loop-ending-preserved c =
-    let handing = rw c.in-Some.ensures.items at c.loop-ending.invariant.handing in
-    let foreign : eqb c.in-Some.ending.thread c.thread-thread.result ≡ false = search rules in
-    let near : c.hand_one-place.result < length (desk c.loop-ending.seat).lines = search rules in
+pub loop-completion-preserved : goal.loop-completion-preserved
+loop-completion-preserved c =
+    let handing = rw c.in-Some.ensures.items at c.loop-completion.invariant.handing in
+    let foreign : eqb c.in-Some.completion.thread c.thread-thread.result ≡ false = search rules in
+    let near : c.hand_one-place.result < length (kernel_view c.loop-completion.seat).lines = search rules in
     record {
-      cells = c.hand_one-place.ensures.cells ∙ c.loop-ending.invariant.cells;
-      handing = rw c.hand_one-place.ensures.put.1 (handing_more _ _ _ _ _ _ _ _ handing c.hand_one-place.result near c.requires.apart foreign c.hand_one-place.ensures.put.0);
+      cells = c.hand_one-place.ensures.cells ∙ c.loop-completion.invariant.cells;
+      handing =
+          rw c.hand_one-place.ensures.put.1
+          (handing_more _ _ _ _ _ _ _ _ handing c.hand_one-place.result near c.requires.apart foreign
+          c.hand_one-place.ensures.put.0);
     }
 
-pub loop-ending-init : goal.loop-ending-init
-loop-ending-init c =
+pub loop-completion-init : goal.loop-completion-init
+loop-completion-init c =
     let ts = threads_of (members_of c.args.kernel.now.threads) in
-    let X = c.args.turn.now.endings.value.items in
-    let d = desk c.args.seat.now in
-    let same : X ≡ c.deref_mut-endings.result.now.items = grind (arith, common_steps) in
-    record { cells = refl; handing = subst (Handing ts X d d c.thread-thread.result None) same (handing_start ts X d c.thread-thread.result) }
+    let X = c.args.scratch.now.completions.value.items in
+    let d = kernel_view c.args.seat.now in
+    let same : X ≡ c.deref_mut-completions.result.now.items = grind (arith, common_steps) in
+    record {
+      cells = refl;
+      handing = subst (Handing ts X d d c.thread-thread.result None) same (handing_start ts X d c.thread-thread.result);
+    }

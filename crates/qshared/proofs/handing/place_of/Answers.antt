@@ -6,4 +6,6 @@ pub returns-in_err-seat : goal.returns-in_err-seat
 returns-in_err-seat c = c.from_residual.ensures ∙ sym (unseated _ c.args.thread c.in_err-seat.ensures.known)
 
 pub returns : goal.returns
-returns c = sym (seated _ c.args.thread c.index.result c.in_ok-seat.seat c.in_ok-seat.ensures.seat c.in_ok-seat.ensures.thread c.index.ensures)
+returns c =
+    sym (seated _ c.args.thread c.index.result c.in_ok-seat.seat c.in_ok-seat.ensures.seat c.in_ok-seat.ensures.thread
+    c.index.ensures)

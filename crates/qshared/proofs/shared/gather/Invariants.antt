@@ -10,5 +10,7 @@ invariant-loop-port g l = record {
   seen : AreSeen l.fn.history.trace (map (λ p. p.seen.trace) l.yielded);
   parts : l.spare.parts ≡ length l.yielded;
   amount : l.spare.amount ≡ sum l.calls.items;
-  room : (length l.seats.items ≡ length l.yielded) × (length l.calls.items ≡ length l.yielded) × (length l.fn.ports.items ≤ vec_capacity l.seats) × (length l.fn.ports.items ≤ vec_capacity l.calls) × (length l.asked.items ≡ length l.yielded) × (length l.fn.ports.items ≤ vec_capacity l.asked);
+  room : (length l.seats.items ≡ length l.yielded) × (length l.calls.items ≡ length l.yielded)
+      × (length l.fn.ports.items ≤ vec_capacity l.seats) × (length l.fn.ports.items ≤ vec_capacity l.calls)
+      × (length l.asked.items ≡ length l.yielded) × (length l.fn.ports.items ≤ vec_capacity l.asked);
 }

@@ -6,8 +6,10 @@ use Rattle.qbase.proofs.byte_set.ByteSet.insert.Goals as goal
 
 pub returns-clause-inserted : goal.returns-clause-inserted
 returns-clause-inserted c =
-    eq-eqb _ 1 (bit-written c.args.self.now.words c.args.number _ (omega arith) ∙ bit_at_set_same w64 _ (c.args.number % 64) (omega arith))
+    eq-eqb _ 1 (bit-written c.args.self.now.words c.args.number _ (omega arith)
+    ∙ bit_at_set_same w64 _ (c.args.number % 64) (omega arith))
 
 pub returns-clause-others : goal.returns-clause-others
 returns-clause-others c other different =
-    ap (λ bit. eqb bit 1) (other-kept c.args.self.now.words c.args.number other _ (omega arith) different (bit_at_set_other w64 _ (c.args.number % 64) (omega arith) (other % 64)))
+    ap (λ bit. eqb bit 1) (other-kept c.args.self.now.words c.args.number other _ (omega arith) different
+    (bit_at_set_other w64 _ (c.args.number % 64) (omega arith) (other % 64)))

@@ -6,8 +6,10 @@ use Rattle.qbase.proofs.byte_set.ByteSet.remove.Goals as goal
 
 pub returns-clause-removed : goal.returns-clause-removed
 returns-clause-removed c =
-    ap (λ bit. eqb bit 1) (bit-written c.args.self.now.words c.args.number _ (omega arith) ∙ bit_at_clear_same w64 _ (c.args.number % 64) (omega arith))
+    ap (λ bit. eqb bit 1) (bit-written c.args.self.now.words c.args.number _ (omega arith)
+    ∙ bit_at_clear_same w64 _ (c.args.number % 64) (omega arith))
 
 pub returns-clause-others : goal.returns-clause-others
 returns-clause-others c other different =
-    ap (λ bit. eqb bit 1) (other-kept c.args.self.now.words c.args.number other _ (omega arith) different (bit_at_clear_other w64 _ (c.args.number % 64) (omega arith) (other % 64) (omega arith)))
+    ap (λ bit. eqb bit 1) (other-kept c.args.self.now.words c.args.number other _ (omega arith) different
+    (bit_at_clear_other w64 _ (c.args.number % 64) (omega arith) (other % 64) (omega arith)))

@@ -22,6 +22,7 @@ returns-clause-steps c =
     elim c.match-make.branch [
       | in-Err w ↦
           let ended = rw (w.new.ensures, caller.made, caller.seat) at w.refuse-in-Err.ensures in
-          rw (w.endings-is, ended, ← c.self.view_is) (rw (caller.made, caller.seat) at w.in-Err.ensures.1)
-      | in_default-make w ↦ rw (w.endings-is, ← c.self.view_is) (rw (caller.made, caller.seat) at w.in_default-make.ensures)
+          rw (w.completions-is, ended, ← c.self.view_is) (rw (caller.made, caller.seat) at w.in-Err.ensures.1)
+      | in_default-make w ↦ rw (w.completions-is, ← c.self.view_is)
+          (rw (caller.made, caller.seat) at w.in_default-make.ensures)
     ]

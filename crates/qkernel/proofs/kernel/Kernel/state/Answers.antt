@@ -10,7 +10,12 @@ returns-in_err-seat c =
     let told = rw none at c.in_err-seat.ensures.value in
     let error : c.in_err-seat.field-0.0 ≡ Srch = cc told in
     let p = err_from_is_err_and c.from_residual.result c.from_residual.ensures.1 in
-    rw (p.1, p.2) (c.requires.none, rw (← c.self.view_is, may.counted, error) (step_state_nobody _ c.args.caller.now.seat.thread c.args.target _ may.among.known may.up may.free _ nobody refl))
+    rw (p.1, p.2) (
+      c.requires.none,
+      rw (← c.self.view_is, may.counted, error)
+          (step_state_nobody _ c.args.caller.now.seat.thread c.args.target _ may.among.known may.up may.free _ nobody
+          refl),
+    )
 
 pub returns : goal.returns
 returns c =
@@ -18,4 +23,5 @@ returns c =
     let there = rw (← c.self.view_is) at (sym c.seat.ensures.known ∙ ap is_some c.in_ok-seat.ensures.ok_part) in
     let thread = rw c.in_ok-seat.ensures.ok_part at c.seat.ensures.thread in
     let ended = rw (c.completion.ensures, c.state.ensures, c.priority.ensures, may.none, thread) at c.put.ensures in
-    rw (← c.self.view_is, may.counted) (step_state _ c.args.caller.now.seat.thread c.args.target _ may.among.known may.up may.free _ may.sound there ended)
+    rw (← c.self.view_is, may.counted)
+    (step_state _ c.args.caller.now.seat.thread c.args.target _ may.among.known may.up may.free _ may.sound there ended)

@@ -6,4 +6,5 @@ pub returns : goal.returns
 returns c =
     let nodes = c.self.inside.lists.nodes in
     c.is_empty.ensures
-    ∙ ap (λ n. eqb n 0) (sym (length-places_from 0 nodes.slots) ∙ sym (length-items_at (places_of nodes)) ∙ ap (λ q. length q.items) c.self.view_is)
+    ∙ ap (λ n. eqb n 0) (sym (length-places_from 0 nodes.slots) ∙ sym (length-items_at (places_of nodes))
+    ∙ ap (λ q. length q.items) c.self.view_is)

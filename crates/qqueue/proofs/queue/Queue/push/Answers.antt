@@ -4,7 +4,8 @@ use Rattle.qqueue.proofs.queue.Queue.push.Goals as goal
 
 pub append-key-requires-clause-newest : goal.append-key-requires-clause-newest
 append-key-requires-clause-newest c =
-    all_of_items (λ x. x.number < c.args.item.number) (places_of c.self.inside.lists.nodes) (rw (← c.self.view_is) at c.requires.newest)
+    all_of_items (λ x. x.number < c.args.item.number) (places_of c.self.inside.lists.nodes)
+    (rw (← c.self.view_is) at c.requires.newest)
 
 pub prove-unreachable-requires : goal.prove-unreachable-requires
 prove-unreachable-requires c =

@@ -1,4 +1,4 @@
--- A receive that ends in its own event takes the best item of its channel.
+-- A receive that completes in its own event takes the best item of its channel.
 use Rattle.qrules.proofs.Common.{arith, ◌≡◌, ℕ, List, Some, best_of, Item, Kind, receipt_completion, Completion}
 use Rattle.qrules.proofs.Words.Items.{own_receipt}
 use Rattle.qrules.proofs.Words.Facts.{Facts, message}
@@ -8,5 +8,6 @@ pub record ReceiveTakes (f : Facts) (t chid : ℕ) (kind : Kind) (buffer : List 
   pub best : best_of kind (f.pending chid) ≡ Some item
   pub completion : receipt_completion item (message f item.number) t f.number buffer ≡ y
 
-pub receive_takes : (f : Facts) (t chid : ℕ) (kind : Kind) (buffer : List ℕ) (y : Completion) → own_receipt f t buffer (best_of kind (f.pending chid)) ≡ Some y → ReceiveTakes f t chid kind buffer y
+pub receive_takes : (f : Facts) (t chid : ℕ) (kind : Kind) (buffer : List ℕ) (y : Completion)
+    → own_receipt f t buffer (best_of kind (f.pending chid)) ≡ Some y → ReceiveTakes f t chid kind buffer y
 receive_takes f t chid kind buffer y e = grind arith

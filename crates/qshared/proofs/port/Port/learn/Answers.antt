@@ -5,4 +5,6 @@ use Rattle.qshared.proofs.port.Port.learn.Goals as goal
 pub invariant_of-self-clause-since : goal.invariant_of-self-clause-since
 invariant_of-self-clause-since g c =
     let self = c.args.self.now in
-    since_extends c.learn.new.self.trace self.last.trace (on self.last.trace self.seen.trace c.learn.new.self.trace c.learn.ensures.own (extends_since self.seen.trace self.last.trace self.since))
+    since_extends c.learn.new.self.trace self.last.trace
+    (on self.last.trace self.seen.trace c.learn.new.self.trace c.learn.ensures.own
+    (extends_since self.seen.trace self.last.trace self.since))

@@ -5,32 +5,43 @@ use Rattle.qshared.proofs.port.Port.make.Goals as goal
 
 pub invariant_of-self : goal.invariant_of-self
 invariant_of-self g c =
-    let self = c.args.self.now in let e = c.call-called.ensures in let t = self.turn.seat.thread in
-    let calls = ap (calls_of self.last.trace) self.turn_is.0 ∙ self.calls_are in
-    let later = subst (λ u. AreLater self.turn.pending (at_once self.last.trace u) (taken self.seat)) (sym self.turn_is.0) self.later in
+    let self = c.args.self.now in let e = c.call-called.ensures in let t = self.scratch.seat.thread in
+    let calls = ap (calls_of self.last.trace) self.scratch_is.0 ∙ self.calls_are in
+    let later = subst (λ u. AreLater self.scratch.pending (at_once self.last.trace u) (taken self.seat))
+    (sym self.scratch_is.0) self.later in
     let since = extends_since self.seen.trace self.last.trace self.since in
     let copy = ap (λ s. s.trace) c.again-self.ensures.copy in
-    let kept = (calls_after g.K.Tie.names.roster g.L.Log.refuses g.L.Log.admits t c.args.call self.asked.calls self.seen.trace self.last.trace c.args.locked.now.traced.past c.call-called.new.seen.trace e.met since calls (taken self.seat) self.turn.pending later c.call-called.result e.came) in
-    let r = later_after g.K.Tie.names.roster g.L.Log.refuses g.L.Log.admits t c.args.call self.asked.calls self.seen.trace self.last.trace c.args.locked.now.traced.past c.call-called.new.seen.trace e.met since calls (taken self.seat) self.turn.pending later c.call-called.result e.came e.idle in
+    let kept =
+    (calls_after g.K.Tie.names.roster g.L.Log.refuses g.L.Log.admits t c.args.call self.asked.calls self.seen.trace
+    self.last.trace c.args.locked.now.traced.past c.call-called.new.seen.trace e.met since calls
+    (taken self.seat) self.scratch.pending later c.call-called.result e.came) in
+    let r =
+    later_after g.K.Tie.names.roster g.L.Log.refuses g.L.Log.admits t c.args.call self.asked.calls self.seen.trace
+    self.last.trace c.args.locked.now.traced.past c.call-called.new.seen.trace e.met since calls
+    (taken self.seat) self.scratch.pending later c.call-called.result e.came e.idle in
     record {
       seat_is = self.seat_is;
       thread_is = self.thread_is;
-      turn_is = (ap (λ s. s.thread) e.seat.0 ∙ self.turn_is.0, ap (λ s. s.index) e.seat.0 ∙ self.turn_is.1);
+      scratch_is = (ap (λ s. s.thread) e.seat.0 ∙ self.scratch_is.0, ap (λ s. s.index) e.seat.0 ∙ self.scratch_is.1);
       idle = e.none;
       counted = omega (arith, e.amount, self.counted, c.events.ensures.number);
       part = e.parts ∙ self.part;
       asked_is = self.asked_is ∙ sym e.name;
       seen_is = e.seen ∙ self.seen_is;
       since = rw copy (since_extends c.call-called.new.seen.trace c.call-called.new.seen.trace ([], refl));
-      calls_are = rw (copy, sym self.turn_is.0) (kept ∙ sym e.asked);
-      later = rw (c.pends-self.ensures, e.seat.1, copy, sym self.turn_is.0) r.0;
+      calls_are = rw (copy, sym self.scratch_is.0) (kept ∙ sym e.asked);
+      later = rw (c.pends-self.ensures, e.seat.1, copy, sym self.scratch_is.0) r.0;
     }
 
 pub returns-clause-taken : goal.returns-clause-taken
 returns-clause-taken g c =
-    let self = c.args.self.now in let e = c.call-called.ensures in let t = self.turn.seat.thread in
-    let calls = ap (calls_of self.last.trace) self.turn_is.0 ∙ self.calls_are in
-    let later = subst (λ u. AreLater self.turn.pending (at_once self.last.trace u) (taken self.seat)) (sym self.turn_is.0) self.later in
+    let self = c.args.self.now in let e = c.call-called.ensures in let t = self.scratch.seat.thread in
+    let calls = ap (calls_of self.last.trace) self.scratch_is.0 ∙ self.calls_are in
+    let later = subst (λ u. AreLater self.scratch.pending (at_once self.last.trace u) (taken self.seat))
+    (sym self.scratch_is.0) self.later in
     let since = extends_since self.seen.trace self.last.trace self.since in
     let copy = ap (λ s. s.trace) c.again-self.ensures.copy in
-    rw (copy, sym self.turn_is.0) (later_after g.K.Tie.names.roster g.L.Log.refuses g.L.Log.admits t c.args.call self.asked.calls self.seen.trace self.last.trace c.args.locked.now.traced.past c.call-called.new.seen.trace e.met since calls (taken self.seat) self.turn.pending later c.call-called.result e.came e.idle).1
+    rw (copy, sym self.scratch_is.0)
+    (later_after g.K.Tie.names.roster g.L.Log.refuses g.L.Log.admits t c.args.call self.asked.calls self.seen.trace
+    self.last.trace c.args.locked.now.traced.past c.call-called.new.seen.trace e.met since calls
+    (taken self.seat) self.scratch.pending later c.call-called.result e.came e.idle).1

@@ -5,4 +5,5 @@ use Rattle.qshared.proofs.port.Port.poll.Goals as goal
 pub returns-clause-taken : goal.returns-clause-taken
 returns-clause-taken g c =
     let self = c.args.self.now in
-    takes (at_once self.last.trace self.thread) _ _ c.take.result _ _ c.take.ensures.taken c.take.ensures.pending self.later
+    takes (at_once self.last.trace self.thread) _ _ c.take.result _ _ c.take.ensures.taken c.take.ensures.pending
+    self.later

@@ -11,6 +11,9 @@ returns-clause-taken g c =
       | then-is_none w ↦
           let again = w.take-completion-then-is_none in
           let none : is_none c.take-completion.result ≡ true = search rules in
-          rw (w.self-is, w.completion-is) (takes_again once _ _ _ c.take-completion.result again.result _ _ _ none first.taken first.pending again.ensures.taken again.ensures.pending self.later)
-      | else-is_none w ↦ rw (w.self-is, w.completion-is) (takes once _ _ c.take-completion.result _ _ first.taken first.pending self.later)
+          rw (w.self-is, w.completion-is)
+          (takes_again once _ _ _ c.take-completion.result again.result _ _ _ none first.taken first.pending
+          again.ensures.taken again.ensures.pending self.later)
+      | else-is_none w ↦ rw (w.self-is, w.completion-is)
+          (takes once _ _ c.take-completion.result _ _ first.taken first.pending self.later)
     ]

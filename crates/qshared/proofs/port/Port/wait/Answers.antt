@@ -7,6 +7,8 @@ pub returns-in-Some-clause-taken : goal.returns-in-Some-clause-taken
 returns-in-Some-clause-taken g c =
     let self = c.args.self.now in let once = at_once self.last.trace self.thread in
     elim c.if-shared.branch [
-      | then-shared w ↦ rw w.self-is (takes_some _ _ _ c.in-Some.completion (sym w.found-is ∙ c.in-Some.is) (takes once _ _ w.look-found.result _ _ w.look-found.ensures.taken w.look-found.ensures.pending self.later))
+      | then-shared w ↦ rw w.self-is
+          (takes_some _ _ _ c.in-Some.completion (sym w.found-is ∙ c.in-Some.is)
+          (takes once _ _ w.look-found.result _ _ w.look-found.ensures.taken w.look-found.ensures.pending self.later))
       | else-shared w ↦ absurd (none-some c.in-Some.completion (sym w.found-is ∙ c.in-Some.is))
     ]

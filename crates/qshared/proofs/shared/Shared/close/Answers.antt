@@ -1,4 +1,7 @@
-use Rattle.qshared.proofs.Common.{◌≡◌, ℕ, [], refl, sym, subst, ap, ◌∙◌, map, length, get_or, ◌++◌, ◌<◌, arith, Some, length-map, get_elem?, rises, cells_id, count, taken, took, left_for, AreBelow, IsRow, calls_of, AreDue, AreKnown, collected, later_due, of_thread, place, AreSeen, RiseByThread, at_map}
+use Rattle.qshared.proofs.Common.{◌≡◌, ℕ, [], refl, sym, subst, ap, ◌∙◌, map, length, get_or, ◌++◌, ◌<◌, arith, Some}
+use Rattle.qshared.proofs.Common.{length-map, get_elem?, rises, cells_id, count, taken, took, left_for, AreBelow, IsRow}
+use Rattle.qshared.proofs.Common.{calls_of, AreDue, AreKnown, collected, later_due, of_thread, place, AreSeen}
+use Rattle.qshared.proofs.Common.{RiseByThread, at_map}
 use Rattle.qrules.proofs.Words.Facts.{threads_of}
 use Rattle.qshared.proofs.Leftover.{all_due, at_port, few_left, left_by_thread, left_due, left_known, port_due}
 use Rattle.qshared.proofs.Lists.{map_both, names_of}
@@ -9,13 +12,17 @@ use Rattle.qshared.proofs.shared.Shared.close.Goals as goal
 pub close-left-requires-clause-threads : goal.close-left-requires-clause-threads
 close-left-requires-clause-threads g c =
     let z = cells_id c.args.self.cells in (
-      ap length c.gather.ensures.seats ∙ length-map c.args.ports.items (λ p. p.seat) ∙ c.requires.all.0 ∙ ap (λ y. y.slots) (sym c.args.self.cells_are),
-      subst (IsRow z) (sym c.gather.ensures.seats) (seats_row (λ p. p.seat) z c.args.ports.items (λ p. p.seat_is ∙ sym c.args.self.cells_are) c.requires.all.1),
+      ap length c.gather.ensures.seats ∙ length-map c.args.ports.items (λ p. p.seat) ∙ c.requires.all.0
+          ∙ ap (λ y. y.slots) (sym c.args.self.cells_are),
+      subst (IsRow z) (sym c.gather.ensures.seats)
+          (seats_row (λ p. p.seat) z c.args.ports.items (λ p. p.seat_is ∙ sym c.args.self.cells_are) c.requires.all.1),
     )
 
 pub without_places-requires : goal.without_places-requires
 without_places-requires g c =
-    let few = few_left (count c.args.self.cells) c.close-left.result.items c.close-left.ensures.rises c.close-left.ensures.within in
+    let few =
+    few_left (count c.args.self.cells) c.close-left.result.items c.close-left.ensures.rises
+    c.close-left.ensures.within in
     let roomy = c.into_inner-traced.result.room.roomy in
     record { room = (roomy.4, omega (arith, few, roomy.5, ap (λ y. y.slots) c.args.self.cells_are)) }
 
@@ -23,57 +30,93 @@ pub agree-requires : goal.agree-requires
 agree-requires g c =
     let under = c.into_inner-traced.result in
     let ports = c.args.ports.items in
-    let named = names_of (λ p. p.asked.name) ports g.K.Tie.names.lists (c.requires.all.0 ∙ sym under.named.1 ∙ sym (length-map under.heard.items (λ h. h.name)) ∙ ap length under.named.0)
+    let named =
+    names_of (λ p. p.asked.name) ports g.K.Tie.names.lists
+    (c.requires.all.0 ∙ sym under.named.1 ∙ sym (length-map under.heard.items (λ h. h.name)) ∙ ap length under.named.0)
     (λ k p at. ap (λ j. get_or g.K.Tie.names.lists j 0) (sym (c.requires.all.1 k p at)) ∙ p.asked_is) in
-    ap (map (λ a. a.name)) c.gather.ensures.asked ∙ map_both (λ a. a.name) (λ p. p.asked) ports ∙ named ∙ sym under.named.0
+    ap (map (λ a. a.name)) c.gather.ensures.asked ∙ map_both (λ a. a.name) (λ p. p.asked) ports ∙ named
+    ∙ sym under.named.0
 
 pub returns-clause-asked : goal.returns-clause-asked
 returns-clause-asked g c = λ t i at.
-    ap (λ ls. get_or ls i []) (sym (map_both (λ a. a.calls) (λ p. p.asked) c.args.ports.items) ∙ ap (map (λ a. a.calls)) (sym c.gather.ensures.asked) ∙ c.agree.ensures)
+    ap (λ ls. get_or ls i []) (sym (map_both (λ a. a.calls) (λ p. p.asked) c.args.ports.items)
+    ∙ ap (map (λ a. a.calls)) (sym c.gather.ensures.asked) ∙ c.agree.ensures)
     ∙ c.into_inner-traced.result.heard_all t i at ∙ ap (λ z. calls_of z.past t) (sym c.traced.view_is)
 
 pub returns-clause-sum : goal.returns-clause-sum
 returns-clause-sum g c =
-    let whole : c.gather.new.spare.parts ≡ g.K.Ledger.parts = c.gather.ensures.spare.0 ∙ c.requires.all.0 ∙ sym c.into_inner-traced.result.whole.is in
-    sym c.gather.ensures.spare.1 ∙ c.audit.ensures.whole whole ∙ sym c.into_inner-traced.result.counted ∙ ap (λ z. length z.past) (sym c.traced.view_is)
+    let whole : c.gather.new.spare.parts ≡ g.K.Ledger.parts = c.gather.ensures.spare.0 ∙ c.requires.all.0
+    ∙ sym c.into_inner-traced.result.whole.is in
+    sym c.gather.ensures.spare.1 ∙ c.audit.ensures.whole whole ∙ sym c.into_inner-traced.result.counted
+    ∙ ap (λ z. length z.past) (sym c.traced.view_is)
 
 pub returns-clause-rises : goal.returns-clause-rises
 returns-clause-rises g c =
     let h = c.traced.invariant.2 in let ts = threads_of g.K.Tie.names.roster in
-    let long : count c.args.self.cells ≡ length ts = ap (λ y. y.slots) c.args.self.cells_are ∙ sym h.sized ∙ sym (length-map g.K.Tie.names.roster (λ m. m.thread)) in
-    let below : AreBelow (length ts) c.close-left.result.items = subst (λ n. AreBelow n c.close-left.result.items) long c.close-left.ensures.within in
-    let told : (t i : ℕ) → place ts t ≡ Some i → took (get_elem? (map (λ p. p.seat) c.args.ports.items) i) ++ left_for i c.close-left.result.items ≡ later_due (g.L.Log.past c.traced.inside.log) t =
-    λ t i at. ap (λ ss. took (get_elem? ss i) ++ left_for i c.close-left.result.items) (sym c.gather.ensures.seats) ∙ c.close-left.ensures.told i (subst (λ n. i < n) (sym long) (place_below ts t i at)) ∙ (h.told.tied t i at).0 in
-    subst RiseByThread (sym c.without_places.ensures) (left_by_thread ts (g.L.Log.past c.traced.inside.log) c.close-left.result.items (rises g.K.Tie.names.roster h.rises) c.close-left.ensures.rises below (λ i. took (get_elem? (map (λ p. p.seat) c.args.ports.items) i)) told)
+    let long : count c.args.self.cells ≡ length ts = ap (λ y. y.slots) c.args.self.cells_are ∙ sym h.sized
+    ∙ sym (length-map g.K.Tie.names.roster (λ m. m.thread)) in
+    let below : AreBelow (length ts) c.close-left.result.items =
+    subst (λ n. AreBelow n c.close-left.result.items) long c.close-left.ensures.within in
+    let told : (t i : ℕ) → place ts t ≡ Some i
+    → took (get_elem? (map (λ p. p.seat) c.args.ports.items) i) ++ left_for i c.close-left.result.items ≡ later_due
+    (g.L.Log.past c.traced.inside.log) t =
+    λ t i at. ap (λ ss. took (get_elem? ss i) ++ left_for i c.close-left.result.items) (sym c.gather.ensures.seats)
+    ∙ c.close-left.ensures.told i (subst (λ n. i < n) (sym long) (place_below ts t i at)) ∙ (h.told.tied t i at).0 in
+    subst RiseByThread (sym c.without_places.ensures)
+    (left_by_thread ts (g.L.Log.past c.traced.inside.log) c.close-left.result.items
+    (rises g.K.Tie.names.roster h.rises) c.close-left.ensures.rises below
+    (λ i. took (get_elem? (map (λ p. p.seat) c.args.ports.items) i)) told)
 
 pub returns-clause-known : goal.returns-clause-known
 returns-clause-known g c =
     let h = c.traced.invariant.2 in let ts = threads_of g.K.Tie.names.roster in
-    let long : count c.args.self.cells ≡ length ts = ap (λ y. y.slots) c.args.self.cells_are ∙ sym h.sized ∙ sym (length-map g.K.Tie.names.roster (λ m. m.thread)) in
-    let below : AreBelow (length ts) c.close-left.result.items = subst (λ n. AreBelow n c.close-left.result.items) long c.close-left.ensures.within in
-    let told : (t i : ℕ) → place ts t ≡ Some i → took (get_elem? (map (λ p. p.seat) c.args.ports.items) i) ++ left_for i c.close-left.result.items ≡ later_due (g.L.Log.past c.traced.inside.log) t =
-    λ t i at. ap (λ ss. took (get_elem? ss i) ++ left_for i c.close-left.result.items) (sym c.gather.ensures.seats) ∙ c.close-left.ensures.told i (subst (λ n. i < n) (sym long) (place_below ts t i at)) ∙ (h.told.tied t i at).0 in
-    subst (AreKnown g.K.Tie.names.roster) (sym c.without_places.ensures) (left_known ts (g.L.Log.past c.traced.inside.log) c.close-left.result.items (rises g.K.Tie.names.roster h.rises) c.close-left.ensures.rises below (λ i. took (get_elem? (map (λ p. p.seat) c.args.ports.items) i)) told g.K.Tie.names.roster refl)
+    let long : count c.args.self.cells ≡ length ts = ap (λ y. y.slots) c.args.self.cells_are ∙ sym h.sized
+    ∙ sym (length-map g.K.Tie.names.roster (λ m. m.thread)) in
+    let below : AreBelow (length ts) c.close-left.result.items =
+    subst (λ n. AreBelow n c.close-left.result.items) long c.close-left.ensures.within in
+    let told : (t i : ℕ) → place ts t ≡ Some i
+    → took (get_elem? (map (λ p. p.seat) c.args.ports.items) i) ++ left_for i c.close-left.result.items ≡ later_due
+    (g.L.Log.past c.traced.inside.log) t =
+    λ t i at. ap (λ ss. took (get_elem? ss i) ++ left_for i c.close-left.result.items) (sym c.gather.ensures.seats)
+    ∙ c.close-left.ensures.told i (subst (λ n. i < n) (sym long) (place_below ts t i at)) ∙ (h.told.tied t i at).0 in
+    subst (AreKnown g.K.Tie.names.roster) (sym c.without_places.ensures)
+    (left_known ts (g.L.Log.past c.traced.inside.log) c.close-left.result.items
+    (rises g.K.Tie.names.roster h.rises) c.close-left.ensures.rises below
+    (λ i. took (get_elem? (map (λ p. p.seat) c.args.ports.items) i)) told g.K.Tie.names.roster refl)
 
 pub returns-clause-due : goal.returns-clause-due
 returns-clause-due g c =
     let h = c.traced.invariant.2 in let past = g.L.Log.past c.traced.inside.log in
     let ts = threads_of g.K.Tie.names.roster in
     let ports = c.args.ports.items in
-    let long : count c.args.self.cells ≡ length ts = ap (λ y. y.slots) c.args.self.cells_are ∙ sym h.sized ∙ sym (length-map g.K.Tie.names.roster (λ m. m.thread)) in
-    let below : AreBelow (length ts) c.close-left.result.items = subst (λ n. AreBelow n c.close-left.result.items) long c.close-left.ensures.within in
-    let told : (t i : ℕ) → place ts t ≡ Some i → took (get_elem? (map (λ p. p.seat) ports) i) ++ left_for i c.close-left.result.items ≡ later_due past t =
-    λ t i at. ap (λ ss. took (get_elem? ss i) ++ left_for i c.close-left.result.items) (sym c.gather.ensures.seats) ∙ c.close-left.ensures.told i (subst (λ n. i < n) (sym long) (place_below ts t i at)) ∙ (h.told.tied t i at).0 in
+    let long : count c.args.self.cells ≡ length ts = ap (λ y. y.slots) c.args.self.cells_are ∙ sym h.sized
+    ∙ sym (length-map g.K.Tie.names.roster (λ m. m.thread)) in
+    let below : AreBelow (length ts) c.close-left.result.items =
+    subst (λ n. AreBelow n c.close-left.result.items) long c.close-left.ensures.within in
+    let told : (t i : ℕ) → place ts t ≡ Some i
+    → took (get_elem? (map (λ p. p.seat) ports) i) ++ left_for i c.close-left.result.items ≡ later_due past t =
+    λ t i at. ap (λ ss. took (get_elem? ss i) ++ left_for i c.close-left.result.items) (sym c.gather.ensures.seats)
+    ∙ c.close-left.ensures.told i (subst (λ n. i < n) (sym long) (place_below ts t i at)) ∙ (h.told.tied t i at).0 in
     let left = map (λ x. x.1) c.close-left.result.items in
-    let cells = left_due ts past c.close-left.result.items (rises g.K.Tie.names.roster h.rises) c.close-left.ensures.rises below (λ i. took (get_elem? (map (λ p. p.seat) ports) i)) told in
+    let cells =
+    left_due ts past c.close-left.result.items (rises g.K.Tie.names.roster h.rises) c.close-left.ensures.rises below
+    (λ i. took (get_elem? (map (λ p. p.seat) ports) i)) told in
     let many : length ports ≡ length ts = c.requires.all.0 ∙ ap (λ y. y.slots) (sym c.args.self.cells_are) ∙ long in
-    subst (λ l. AreDue g.K.Tie.names.roster (map (λ p. collected p.last.trace p.thread (taken p.seat)) ports) l past) (sym c.without_places.ensures)
-    (all_due (λ p. p.seat) (λ p. collected p.last.trace p.thread (taken p.seat)) g.K.Tie.names.roster past left ports many (λ t k p at is mine.
+    subst (λ l. AreDue g.K.Tie.names.roster (map (λ p. collected p.last.trace p.thread (taken p.seat)) ports) l past)
+    (sym c.without_places.ensures)
+    (all_due (λ p. p.seat) (λ p. collected p.last.trace p.thread (taken p.seat)) g.K.Tie.names.roster past left ports
+    many (λ t k p at is mine.
     let same = place_same ts p.thread t k (p.thread_is ∙ ap Some (c.requires.all.1 k p at)) is in
-    let extends = subst (λ q. AreSeen q (map (λ p. p.seen.trace) ports)) c.traced.invariant.3.1 c.gather.ensures.seen k p.seen.trace (at_map (λ q. q.seen.trace) ports k p at) in
-    let now = sym (returns-clause-asked g c t k is) ∙ at_port (λ q. q.seat) (λ q. []) g.K.Tie.names.roster past left (λ q. q.asked.calls) ports k p [] at in
+    let extends =
+    subst (λ q. AreSeen q (map (λ p. p.seen.trace) ports)) c.traced.invariant.3.1 c.gather.ensures.seen k p.seen.trace
+    (at_map (λ q. q.seen.trace) ports k p at) in
+    let now = sym (returns-clause-asked g c t k is)
+    ∙ at_port (λ q. q.seat) (λ q. []) g.K.Tie.names.roster past left (λ q. q.asked.calls) ports k p [] at in
     let o = h.told.owed t k is in
-    port_due past p.seen.trace p.last.trace p.asked.calls p.thread t (taken p.seat) (of_thread t left) p.turn.pending _ same extends p.since now p.calls_are p.later o.later o.whole mine) cells)
+    port_due past p.seen.trace p.last.trace p.asked.calls p.thread t (taken p.seat)
+    (of_thread t left) p.scratch.pending _ same extends p.since now p.calls_are p.later o.later o.whole mine) cells)
 
 pub returns-clause-seen : goal.returns-clause-seen
-returns-clause-seen g c = subst (λ past. AreSeen past (map (λ p. p.seen.trace) c.args.ports.items)) c.traced.invariant.3.1 c.gather.ensures.seen
+returns-clause-seen g c =
+    subst (λ past. AreSeen past (map (λ p. p.seen.trace) c.args.ports.items)) c.traced.invariant.3.1
+    c.gather.ensures.seen

@@ -1,60 +1,117 @@
-use Rattle.qshared.proofs.Common.{◌≡◌, length, sym, ◌∙◌, ap, refl, subst, inl, inr, arith, Some, with_event, desk, threads_of, seat_kept, Extends, WaitedBefore, calls_of, place, AnswersAtTraces, stands_down, stands_made, stands_roster}
+use Rattle.qshared.proofs.Common.{◌≡◌, length, sym, ◌∙◌, ap, refl, subst, inl, inr, arith, Some, with_event}
+use Rattle.qshared.proofs.Common.{kernel_view, threads_of, seat_kept, Extends, WaitedBefore, calls_of, place}
+use Rattle.qshared.proofs.Common.{AnswersAtTraces, stands_down, stands_made, stands_roster}
 use Rattle.qshared.proofs.Turns.{still_waited}
 use Rattle.qshared.proofs.Places.{seat_at_place}
-use Rattle.qshared.proofs.Keeps.{is_known, is_shut, is_busy, is_pending, free, same_desk, held_after, apart, may_put, performs}
+use Rattle.qshared.proofs.Keeps.{is_known, is_shut, is_busy, is_pending, free, same_kernel_view, held_after, apart}
+use Rattle.qshared.proofs.Keeps.{may_put, performs}
 use Rattle.qshared.proofs.traced.Traced.perform.Goals as goal
 
 pub returns-then-is_down-clause-performs : goal.returns-then-is_down-clause-performs
 returns-then-is_down-clause-performs g c =
-    let seat = c.args.turn.now.seat in
-    rw (← c.self.view_is) (refl, refl, inl (is_known _ _ _ _ _ _ c.self.invariant.2 seat.thread seat.index c.requires.seat, is_shut _ _ _ _ _ _ c.self.invariant.2 seat.thread seat.index c.requires.seat (sym c.is_down.ensures ∙ c.if-is_down.true)))
+    let seat = c.args.scratch.now.seat in
+    rw (← c.self.view_is) (
+      refl,
+      refl,
+      inl (
+        is_known _ _ _ _ _ _ c.self.invariant.2 seat.thread seat.index c.requires.seat,
+        is_shut _ _ _ _ _ _ c.self.invariant.2 seat.thread seat.index c.requires.seat
+            (sym c.is_down.ensures ∙ c.if-is_down.true),
+      ),
+    )
 
 pub returns-then-not-open-clause-performs : goal.returns-then-not-open-clause-performs
 returns-then-not-open-clause-performs g c =
-    let at : place (threads_of g.K.Tie.names.roster) c.args.turn.now.seat.thread ≡ Some c.index-place.result = c.requires.seat ∙ ap Some (sym c.index-place.ensures) in
+    let at : place (threads_of g.K.Tie.names.roster) c.args.scratch.now.seat.thread ≡ Some c.index-place.result =
+    c.requires.seat ∙ ap Some (sym c.index-place.ensures) in
     let up = sym c.is_down.ensures ∙ c.if-is_down.false in
-    rw (← c.self.view_is, c.if-not-open.ensures.desk.0) (refl, refl, inl (is_busy _ _ _ _ _ _ c.self.invariant.2 c.args.turn.now.seat.thread c.index-place.result at up c.if-not-open.ensures.desk.1))
+    rw (← c.self.view_is, c.if-not-open.ensures.kernel_view.0) (
+      refl,
+      refl,
+      inl (is_busy _ _ _ _ _ _ c.self.invariant.2 c.args.scratch.now.seat.thread c.index-place.result at up
+          c.if-not-open.ensures.kernel_view.1),
+    )
 
-pub returns-then-turn-clause-performs : goal.returns-then-turn-clause-performs
-returns-then-turn-clause-performs g c =
-    let t = c.args.turn.now.seat.thread in
+pub returns-then-scratch-clause-performs : goal.returns-then-scratch-clause-performs
+returns-then-scratch-clause-performs g c =
+    let t = c.args.scratch.now.seat.thread in
     let up = sym c.is_down.ensures ∙ c.if-is_down.false in
-    rw (← c.self.view_is) (refl, refl, inl (is_pending _ _ _ _ _ _ c.self.invariant.2 t c.args.turn.now.seat.index c.requires.seat up (still_waited (g.L.Log.past c.self.inside.log) c.args.seen.now.trace t (subst (λ p. Extends p c.args.seen.now.trace) c.self.invariant.3.1 c.look.ensures.extends) (subst (λ u. WaitedBefore c.args.seen.now.trace (calls_of u.past t) t) (sym c.self.view_is) (c.requires.pending c.if-turn.true)))))
+    rw (← c.self.view_is) (
+      refl,
+      refl,
+      inl (is_pending _ _ _ _ _ _ c.self.invariant.2 t c.args.scratch.now.seat.index c.requires.seat up
+          (still_waited (g.L.Log.past c.self.inside.log) c.args.seen.now.trace t
+          (subst (λ p. Extends p c.args.seen.now.trace) c.self.invariant.3.1 c.look.ensures.extends)
+          (subst (λ u. WaitedBefore c.args.seen.now.trace (calls_of u.past t) t) (sym c.self.view_is)
+          (c.requires.pending c.if-scratch.true)))),
+    )
 
 pub hand_out-own-requires-clause-place : goal.hand_out-own-requires-clause-place
 hand_out-own-requires-clause-place g c =
-    let t = c.args.turn.now.seat.thread in
-    ap (λ ms. place (threads_of ms) t) c.make_at.ensures.roster ∙ ap (λ ts. place ts t) c.self.invariant.2.threads_are ∙ c.requires.seat
+    let t = c.args.scratch.now.seat.thread in
+    ap (λ ms. place (threads_of ms) t) c.make_at.ensures.roster ∙ ap (λ ts. place ts t) c.self.invariant.2.threads_are
+    ∙ c.requires.seat
 
 pub invariant_of-self-in-Err : goal.invariant_of-self-in-Err
 invariant_of-self-in-Err g c =
-    let at : place (threads_of g.K.Tie.names.roster) c.args.turn.now.seat.thread ≡ Some c.index-place.result = c.requires.seat ∙ ap Some (sym c.index-place.ensures) in
-    let up = sym c.is_down.ensures ∙ c.if-is_down.false in let opened = c.if-not-open.ensures.desk in
-    let wide : length (desk c.self.inside.seat).lines ≡ g.K.Tie.names.cells.slots = c.self.inside.seat.knows.1 ∙ ap (λ z. z.slots) c.self.invariant.0 in
+    let at : place (threads_of g.K.Tie.names.roster) c.args.scratch.now.seat.thread ≡ Some c.index-place.result =
+    c.requires.seat ∙ ap Some (sym c.index-place.ensures) in
+    let up = sym c.is_down.ensures ∙ c.if-is_down.false in let opened = c.if-not-open.ensures.kernel_view in
+    let wide : length (kernel_view c.self.inside.seat).lines ≡ g.K.Tie.names.cells.slots = c.self.inside.seat.knows.1
+    ∙ ap (λ z. z.slots) c.self.invariant.0 in
     let same = c.note.ensures.same in (
       c.cancel.ensures.cells ∙ c.open.ensures.cells ∙ c.self.invariant.0,
       same.1 ∙ c.self.invariant.1,
-      rw (c.cancel.ensures.desk, opened.0, same_desk _ _ _ _ _ _ c.self.invariant.2 c.args.turn.now.seat.thread c.index-place.result at up opened.1 wide, same.0) c.self.invariant.2,
-      (ap (λ h. h.name) c.look.ensures.same ∙ c.self.invariant.3.0, ap (λ h. h.trace) c.look.ensures.same ∙ c.self.invariant.3.1 ∙ sym same.0),
+      rw (
+        c.cancel.ensures.kernel_view,
+        opened.0,
+        same_kernel_view _ _ _ _ _ _ c.self.invariant.2 c.args.scratch.now.seat.thread c.index-place.result at up
+            opened.1 wide,
+        same.0,
+      ) c.self.invariant.2,
+      (
+        ap (λ h. h.name) c.look.ensures.same ∙ c.self.invariant.3.0,
+        ap (λ h. h.trace) c.look.ensures.same
+            ∙ c.self.invariant.3.1 ∙ sym same.0,
+      ),
     )
 
 pub returns-in-Err-clause-performs : goal.returns-in-Err-clause-performs
 returns-in-Err-clause-performs g c =
-    let at : place (threads_of g.K.Tie.names.roster) c.args.turn.now.seat.thread ≡ Some c.index-place.result = c.requires.seat ∙ ap Some (sym c.index-place.ensures) in
-    let up = sym c.is_down.ensures ∙ c.if-is_down.false in let opened = c.if-not-open.ensures.desk in
-    let wide : length (desk c.self.inside.seat).lines ≡ g.K.Tie.names.cells.slots = c.self.inside.seat.knows.1 ∙ ap (λ z. z.slots) c.self.invariant.0 in
+    let at : place (threads_of g.K.Tie.names.roster) c.args.scratch.now.seat.thread ≡ Some c.index-place.result =
+    c.requires.seat ∙ ap Some (sym c.index-place.ensures) in
+    let up = sym c.is_down.ensures ∙ c.if-is_down.false in let opened = c.if-not-open.ensures.kernel_view in
+    let wide : length (kernel_view c.self.inside.seat).lines ≡ g.K.Tie.names.cells.slots = c.self.inside.seat.knows.1
+    ∙ ap (λ z. z.slots) c.self.invariant.0 in
     let same = c.note.ensures.same in
-    rw (← c.self.view_is, c.cancel.ensures.desk, opened.0, same_desk _ _ _ _ _ _ c.self.invariant.2 c.args.turn.now.seat.thread c.index-place.result at up opened.1 wide, same.0)
-    (refl, refl, inr (free _ _ _ _ _ _ c.self.invariant.2 c.args.turn.now.seat.thread c.index-place.result at up opened.1 wide, c.in-Err.ensures.refused))
+    rw (
+      ← c.self.view_is,
+      c.cancel.ensures.kernel_view,
+      opened.0,
+      same_kernel_view _ _ _ _ _ _ c.self.invariant.2 c.args.scratch.now.seat.thread c.index-place.result at up
+          opened.1 wide,
+      same.0,
+    ) (
+      refl,
+      refl,
+      inr (
+        free _ _ _ _ _ _ c.self.invariant.2 c.args.scratch.now.seat.thread c.index-place.result at up opened.1 wide,
+        c.in-Err.ensures.refused,
+      ),
+    )
 
 pub make_at-requires-clause-few : goal.make_at-requires-clause-few
-make_at-requires-clause-few g c = let made = stands_made _ _ _ c.self.invariant.2.told.stands in omega (arith, c.in_default.ensures.few, made)
+make_at-requires-clause-few g c = let made = stands_made _ _ _ c.self.invariant.2.told.stands in
+    omega (arith, c.in_default.ensures.few, made)
 
 pub event-requires-clause-roster : goal.event-requires-clause-roster
-event-requires-clause-roster g c = c.make_at.ensures.roster ∙ stands_roster _ _ _ c.self.invariant.2.told.stands ∙ sym (c.note.ensures.same.1 ∙ c.self.invariant.1)
+event-requires-clause-roster g c = c.make_at.ensures.roster ∙ stands_roster _ _ _ c.self.invariant.2.told.stands
+    ∙ sym (c.note.ensures.same.1 ∙ c.self.invariant.1)
 
 pub event-requires-clause-seat : goal.event-requires-clause-seat
-event-requires-clause-seat g c = seat_kept c.args.turn.now.seat.thread _ _ c.make_at.ensures.roster ∙ seat_at_place _ c.args.turn.now.seat (ap (λ ts. place ts c.args.turn.now.seat.thread) c.self.invariant.2.threads_are ∙ c.requires.seat)
+event-requires-clause-seat g c = seat_kept c.args.scratch.now.seat.thread _ _ c.make_at.ensures.roster
+    ∙ seat_at_place _ c.args.scratch.now.seat
+    (ap (λ ts. place ts c.args.scratch.now.seat.thread) c.self.invariant.2.threads_are ∙ c.requires.seat)
 
 pub event-requires-clause-lawful : goal.event-requires-clause-lawful
 event-requires-clause-lawful g c =
@@ -63,66 +120,121 @@ event-requires-clause-lawful g c =
 
 pub event-requires-clause-thread : goal.event-requires-clause-thread
 event-requires-clause-thread g c =
-    let at : place (threads_of g.K.Tie.names.roster) c.args.turn.now.seat.thread ≡ Some c.index-place.result = c.requires.seat ∙ ap Some (sym c.index-place.ensures) in
-    let up = sym c.is_down.ensures ∙ c.if-is_down.false in let opened = c.if-not-open.ensures.desk in
-    let wide : length (desk c.self.inside.seat).lines ≡ g.K.Tie.names.cells.slots = c.self.inside.seat.knows.1 ∙ ap (λ z. z.slots) c.self.invariant.0 in
+    let at : place (threads_of g.K.Tie.names.roster) c.args.scratch.now.seat.thread ≡ Some c.index-place.result =
+    c.requires.seat ∙ ap Some (sym c.index-place.ensures) in
+    let up = sym c.is_down.ensures ∙ c.if-is_down.false in let opened = c.if-not-open.ensures.kernel_view in
+    let wide : length (kernel_view c.self.inside.seat).lines ≡ g.K.Tie.names.cells.slots = c.self.inside.seat.knows.1
+    ∙ ap (λ z. z.slots) c.self.invariant.0 in
     let same = c.note.ensures.same in
-    rw (same.1 ∙ c.self.invariant.1, same.0) (is_known _ _ _ _ _ _ c.self.invariant.2 c.args.turn.now.seat.thread c.index-place.result at, (free _ _ _ _ _ _ c.self.invariant.2 c.args.turn.now.seat.thread c.index-place.result at up opened.1 wide).idle)
+    rw (same.1 ∙ c.self.invariant.1, same.0) (
+      is_known _ _ _ _ _ _ c.self.invariant.2 c.args.scratch.now.seat.thread c.index-place.result at,
+      (free _ _ _ _ _ _ c.self.invariant.2 c.args.scratch.now.seat.thread c.index-place.result at up opened.1
+          wide).idle,
+    )
 
 pub event-requires-clause-answers : goal.event-requires-clause-answers
 event-requires-clause-answers g c =
     let same = c.note.ensures.same in
-    rw (c.deref.ensures, same.1 ∙ c.self.invariant.1, same.0, c.in_default.ensures.noted.0) (c.make_at.ensures.event g.K.Tie.names.roster (g.L.Log.past c.self.inside.log) c.self.invariant.2.told.lawful c.self.invariant.2.told.stands).0
+    rw (c.deref.ensures, same.1 ∙ c.self.invariant.1, same.0, c.in_default.ensures.noted.0)
+    (c.make_at.ensures.event g.K.Tie.names.roster (g.L.Log.past c.self.inside.log) c.self.invariant.2.told.lawful
+    c.self.invariant.2.told.stands).0
 
 pub hand_out-own-requires-clause-apart : goal.hand_out-own-requires-clause-apart
 hand_out-own-requires-clause-apart g c =
-    let event : AnswersAtTraces c.self.inside.kernel c.args.turn.now.seat.thread c.args.call c.make_at.new.endings.items c.make_at.new.kernel = c.make_at.ensures.event in
-    let at : place (threads_of g.K.Tie.names.roster) c.args.turn.now.seat.thread ≡ Some c.index-place.result = c.requires.seat ∙ ap Some (sym c.index-place.ensures) in
-    let up = sym c.is_down.ensures ∙ c.if-is_down.false in let opened = c.if-not-open.ensures.desk in
-    let wide : length (desk c.self.inside.seat).lines ≡ g.K.Tie.names.cells.slots = c.self.inside.seat.knows.1 ∙ ap (λ z. z.slots) c.self.invariant.0 in
-    apart _ _ _ _ _ _ c.self.invariant.2 c.args.turn.now.seat.thread c.index-place.result at up opened.1 wide c.in_default.ensures.few c.args.call c.make_at.new.endings.items c.make_at.new.kernel event
+    let event : AnswersAtTraces c.self.inside.kernel c.args.scratch.now.seat.thread c.args.call
+    c.make_at.new.completions.items c.make_at.new.kernel = c.make_at.ensures.event in
+    let at : place (threads_of g.K.Tie.names.roster) c.args.scratch.now.seat.thread ≡ Some c.index-place.result =
+    c.requires.seat ∙ ap Some (sym c.index-place.ensures) in
+    let up = sym c.is_down.ensures ∙ c.if-is_down.false in let opened = c.if-not-open.ensures.kernel_view in
+    let wide : length (kernel_view c.self.inside.seat).lines ≡ g.K.Tie.names.cells.slots = c.self.inside.seat.knows.1
+    ∙ ap (λ z. z.slots) c.self.invariant.0 in
+    apart _ _ _ _ _ _ c.self.invariant.2 c.args.scratch.now.seat.thread c.index-place.result at up opened.1 wide
+    c.in_default.ensures.few c.args.call c.make_at.new.completions.items c.make_at.new.kernel event
 
 pub hand_out-own-requires-clause-may : goal.hand_out-own-requires-clause-may
 hand_out-own-requires-clause-may g c =
-    let event : AnswersAtTraces c.self.inside.kernel c.args.turn.now.seat.thread c.args.call c.make_at.new.endings.items c.make_at.new.kernel = c.make_at.ensures.event in
-    let at : place (threads_of g.K.Tie.names.roster) c.args.turn.now.seat.thread ≡ Some c.index-place.result = c.requires.seat ∙ ap Some (sym c.index-place.ensures) in
-    let up = sym c.is_down.ensures ∙ c.if-is_down.false in let opened = c.if-not-open.ensures.desk in
-    let wide : length (desk c.self.inside.seat).lines ≡ g.K.Tie.names.cells.slots = c.self.inside.seat.knows.1 ∙ ap (λ z. z.slots) c.self.invariant.0 in
-    rw (c.make_at.ensures.roster, opened.0) (may_put _ _ _ _ _ _ c.self.invariant.2 c.args.turn.now.seat.thread c.index-place.result at up opened.1 wide c.in_default.ensures.few c.args.call c.make_at.new.endings.items c.make_at.new.kernel event)
+    let event : AnswersAtTraces c.self.inside.kernel c.args.scratch.now.seat.thread c.args.call
+    c.make_at.new.completions.items c.make_at.new.kernel = c.make_at.ensures.event in
+    let at : place (threads_of g.K.Tie.names.roster) c.args.scratch.now.seat.thread ≡ Some c.index-place.result =
+    c.requires.seat ∙ ap Some (sym c.index-place.ensures) in
+    let up = sym c.is_down.ensures ∙ c.if-is_down.false in let opened = c.if-not-open.ensures.kernel_view in
+    let wide : length (kernel_view c.self.inside.seat).lines ≡ g.K.Tie.names.cells.slots = c.self.inside.seat.knows.1
+    ∙ ap (λ z. z.slots) c.self.invariant.0 in
+    rw (c.make_at.ensures.roster, opened.0)
+    (may_put _ _ _ _ _ _ c.self.invariant.2 c.args.scratch.now.seat.thread c.index-place.result at up opened.1 wide
+    c.in_default.ensures.few c.args.call c.make_at.new.completions.items c.make_at.new.kernel event)
 
 pub invariant_of-self-2 : goal.invariant_of-self-2
 invariant_of-self-2 g c =
-    let event : AnswersAtTraces c.self.inside.kernel c.args.turn.now.seat.thread c.args.call c.make_at.new.endings.items c.make_at.new.kernel = c.make_at.ensures.event in
-    let at : place (threads_of g.K.Tie.names.roster) c.args.turn.now.seat.thread ≡ Some c.index-place.result = c.requires.seat ∙ ap Some (sym c.index-place.ensures) in
-    let up = sym c.is_down.ensures ∙ c.if-is_down.false in let opened = c.if-not-open.ensures.desk in
-    let wide : length (desk c.self.inside.seat).lines ≡ g.K.Tie.names.cells.slots = c.self.inside.seat.knows.1 ∙ ap (λ z. z.slots) c.self.invariant.0 in
+    let event : AnswersAtTraces c.self.inside.kernel c.args.scratch.now.seat.thread c.args.call
+    c.make_at.new.completions.items c.make_at.new.kernel = c.make_at.ensures.event in
+    let at : place (threads_of g.K.Tie.names.roster) c.args.scratch.now.seat.thread ≡ Some c.index-place.result =
+    c.requires.seat ∙ ap Some (sym c.index-place.ensures) in
+    let up = sym c.is_down.ensures ∙ c.if-is_down.false in let opened = c.if-not-open.ensures.kernel_view in
+    let wide : length (kernel_view c.self.inside.seat).lines ≡ g.K.Tie.names.cells.slots = c.self.inside.seat.knows.1
+    ∙ ap (λ z. z.slots) c.self.invariant.0 in
     let handed = rw (c.make_at.ensures.roster, opened.0) at c.hand_out-own.ensures.handed in
-    let past = c.event.ensures.event ∙ ap (λ x. with_event c.args.turn.now.seat.thread (g.L.Log.noted c.note.new.self) x.items (g.L.Log.past c.note.new.self)) c.deref.ensures ∙ ap (λ k. with_event c.args.turn.now.seat.thread k c.make_at.new.endings.items (g.L.Log.past c.note.new.self)) c.in_default.ensures.noted.0 ∙ ap (λ p. with_event c.args.turn.now.seat.thread c.args.call c.make_at.new.endings.items p) c.note.ensures.same.0 in
-    let t = c.args.turn.now.seat.thread in let X = c.make_at.new.endings.items in
-    let seen = c.add.ensures.past ∙ ap (λ u. with_event u c.of-asking.result.value c.deref-2.result.now.items c.look.new.self.trace) c.thread-thread.ensures ∙ ap (λ k. with_event t k c.deref-2.result.now.items c.look.new.self.trace) c.of-asking.ensures ∙ ap (λ x. with_event t c.args.call x.items c.look.new.self.trace) c.deref-2.ensures ∙ ap (λ h. with_event t c.args.call X h.trace) c.look.ensures.same ∙ ap (λ p. with_event t c.args.call X p) c.self.invariant.3.1 in (
+    let past = c.event.ensures.event
+    ∙ ap (λ x. with_event c.args.scratch.now.seat.thread (g.L.Log.noted c.note.new.self) x.items
+    (g.L.Log.past c.note.new.self)) c.deref.ensures
+    ∙ ap (λ k. with_event c.args.scratch.now.seat.thread k c.make_at.new.completions.items
+    (g.L.Log.past c.note.new.self)) c.in_default.ensures.noted.0
+    ∙ ap (λ p. with_event c.args.scratch.now.seat.thread c.args.call c.make_at.new.completions.items p)
+    c.note.ensures.same.0 in
+    let t = c.args.scratch.now.seat.thread in let X = c.make_at.new.completions.items in
+    let seen = c.add.ensures.past
+    ∙ ap (λ u. with_event u c.of-asking.result.value c.deref-2.result.now.items c.look.new.self.trace)
+    c.thread-thread.ensures ∙ ap (λ k. with_event t k c.deref-2.result.now.items c.look.new.self.trace)
+    c.of-asking.ensures ∙ ap (λ x. with_event t c.args.call x.items c.look.new.self.trace) c.deref-2.ensures
+    ∙ ap (λ h. with_event t c.args.call X h.trace) c.look.ensures.same
+    ∙ ap (λ p. with_event t c.args.call X p) c.self.invariant.3.1 in (
       c.hand_out-own.ensures.cells ∙ c.open.ensures.cells ∙ c.self.invariant.0,
       c.event.ensures.same ∙ c.note.ensures.same.1 ∙ c.self.invariant.1,
-      rw (past, c.make_at.ensures.roster) (held_after _ _ _ _ _ _ c.self.invariant.2 c.args.turn.now.seat.thread c.index-place.result at up opened.1 wide c.in_default.ensures.few c.args.call c.make_at.new.endings.items c.make_at.new.kernel event (desk c.hand_out-own.new.seat) handed),
-      (ap (λ h. h.name) c.look-2.ensures.same ∙ c.add.ensures.name ∙ ap (λ h. h.name) c.look.ensures.same ∙ c.self.invariant.3.0, ap (λ h. h.trace) c.look-2.ensures.same ∙ seen ∙ sym past),
+      rw (past, c.make_at.ensures.roster)
+          (held_after _ _ _ _ _ _ c.self.invariant.2 c.args.scratch.now.seat.thread c.index-place.result at up opened.1
+          wide c.in_default.ensures.few c.args.call c.make_at.new.completions.items c.make_at.new.kernel event
+          (kernel_view c.hand_out-own.new.seat) handed),
+      (
+        ap (λ h. h.name) c.look-2.ensures.same ∙ c.add.ensures.name ∙ ap (λ h. h.name) c.look.ensures.same
+            ∙ c.self.invariant.3.0,
+        ap (λ h. h.trace) c.look-2.ensures.same ∙ seen ∙ sym past,
+      ),
     )
 
 pub returns-clause-performs : goal.returns-clause-performs
 returns-clause-performs g c =
-    let event : AnswersAtTraces c.self.inside.kernel c.args.turn.now.seat.thread c.args.call c.make_at.new.endings.items c.make_at.new.kernel = c.make_at.ensures.event in
-    let at : place (threads_of g.K.Tie.names.roster) c.args.turn.now.seat.thread ≡ Some c.index-place.result = c.requires.seat ∙ ap Some (sym c.index-place.ensures) in
-    let up = sym c.is_down.ensures ∙ c.if-is_down.false in let opened = c.if-not-open.ensures.desk in
-    let wide : length (desk c.self.inside.seat).lines ≡ g.K.Tie.names.cells.slots = c.self.inside.seat.knows.1 ∙ ap (λ z. z.slots) c.self.invariant.0 in
-    let past = c.event.ensures.event ∙ ap (λ x. with_event c.args.turn.now.seat.thread (g.L.Log.noted c.note.new.self) x.items (g.L.Log.past c.note.new.self)) c.deref.ensures ∙ ap (λ k. with_event c.args.turn.now.seat.thread k c.make_at.new.endings.items (g.L.Log.past c.note.new.self)) c.in_default.ensures.noted.0 ∙ ap (λ p. with_event c.args.turn.now.seat.thread c.args.call c.make_at.new.endings.items p) c.note.ensures.same.0 in
-    rw (← c.self.view_is, c.ended_or_open.ensures, past) (performs _ _ _ _ _ _ c.self.invariant.2 c.args.turn.now.seat.thread c.index-place.result at up opened.1 wide c.in_default.ensures.few c.args.call c.make_at.new.endings.items c.make_at.new.kernel event g.L.Log.refuses g.L.Log.admits _ c.in_default.ensures.admitted c.hand_out-own.result c.hand_out-own.ensures.own)
+    let event : AnswersAtTraces c.self.inside.kernel c.args.scratch.now.seat.thread c.args.call
+    c.make_at.new.completions.items c.make_at.new.kernel = c.make_at.ensures.event in
+    let at : place (threads_of g.K.Tie.names.roster) c.args.scratch.now.seat.thread ≡ Some c.index-place.result =
+    c.requires.seat ∙ ap Some (sym c.index-place.ensures) in
+    let up = sym c.is_down.ensures ∙ c.if-is_down.false in let opened = c.if-not-open.ensures.kernel_view in
+    let wide : length (kernel_view c.self.inside.seat).lines ≡ g.K.Tie.names.cells.slots = c.self.inside.seat.knows.1
+    ∙ ap (λ z. z.slots) c.self.invariant.0 in
+    let past = c.event.ensures.event
+    ∙ ap (λ x. with_event c.args.scratch.now.seat.thread (g.L.Log.noted c.note.new.self) x.items
+    (g.L.Log.past c.note.new.self)) c.deref.ensures
+    ∙ ap (λ k. with_event c.args.scratch.now.seat.thread k c.make_at.new.completions.items
+    (g.L.Log.past c.note.new.self)) c.in_default.ensures.noted.0
+    ∙ ap (λ p. with_event c.args.scratch.now.seat.thread c.args.call c.make_at.new.completions.items p)
+    c.note.ensures.same.0 in
+    rw (← c.self.view_is, c.ended_or_open.ensures, past)
+    (performs _ _ _ _ _ _ c.self.invariant.2 c.args.scratch.now.seat.thread c.index-place.result at up opened.1 wide
+    c.in_default.ensures.few c.args.call c.make_at.new.completions.items c.make_at.new.kernel event g.L.Log.refuses
+    g.L.Log.admits _ c.in_default.ensures.admitted c.hand_out-own.result c.hand_out-own.ensures.own)
 
 pub note-requires-clause-up : goal.note-requires-clause-up
-note-requires-clause-up g c = sym (stands_down _ _ _ c.self.invariant.2.told.stands) ∙ sym c.is_down.ensures ∙ c.if-is_down.false
+note-requires-clause-up g c = sym (stands_down _ _ _ c.self.invariant.2.told.stands) ∙ sym c.is_down.ensures
+    ∙ c.if-is_down.false
 
 pub note-requires-clause-made : goal.note-requires-clause-made
 note-requires-clause-made g c = c.made-made.ensures.value ∙ stands_made _ _ _ c.self.invariant.2.told.stands
 
 pub event-requires-clause-up : goal.event-requires-clause-up
-event-requires-clause-up g c = rw (c.note.ensures.same.0) (sym (stands_down _ _ _ c.self.invariant.2.told.stands) ∙ sym c.is_down.ensures ∙ c.if-is_down.false)
+event-requires-clause-up g c =
+    rw (c.note.ensures.same.0) (sym (stands_down _ _ _ c.self.invariant.2.told.stands) ∙ sym c.is_down.ensures
+    ∙ c.if-is_down.false)
 
 pub make_at-requires-clause-seat : goal.make_at-requires-clause-seat
-make_at-requires-clause-seat g c = seat_at_place _ c.args.turn.now.seat (ap (λ ts. place ts c.args.turn.now.seat.thread) c.self.invariant.2.threads_are ∙ c.requires.seat)
+make_at-requires-clause-seat g c =
+    seat_at_place _ c.args.scratch.now.seat
+    (ap (λ ts. place ts c.args.scratch.now.seat.thread) c.self.invariant.2.threads_are ∙ c.requires.seat)

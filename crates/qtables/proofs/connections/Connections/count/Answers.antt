@@ -9,5 +9,9 @@ loop-place-preserved c =
     let p = λ (r : Connection). (r.process == c.args.process) && (r.channel == c.args.channel) in
     let entries = c.self.inside.entries in
     let within : c.loop-place.place < length entries = omega arith in
-    let more = count_by_more p entries c.loop-place.place (0, c.at-connection.result.now) c.at-connection.result.now within c.at-connection.ensures in
+    let more =
+    count_by_more p entries c.loop-place.place (
+      0,
+      c.at-connection.result.now,
+    ) c.at-connection.result.now within c.at-connection.ensures in
     grind (arith, common_steps, more)

@@ -4,4 +4,5 @@ use Rattle.qscript.proofs.printing.printer.Printer.finish.Goals as goal
 
 pub returns : goal.returns
 unfolding printed
-returns c = λ run so_far. c.in_ok-push_open_lines.ensures ∙ ap (λ t. t ++ flat_map open_text c.args.blocked.now) so_far.text
+returns c = λ run so_far. c.in_ok-push_open_lines.ensures
+    ∙ ap (λ t. t ++ flat_map open_text c.args.blocked.now) so_far.text

@@ -1,0 +1,6 @@
+//! The laws of every valid history, and of the prefixes that threads see. The functions do nothing: their
+//! contracts are the laws.
+
+pub use crate::fitting::results_fit_calls;
+pub use qrules_laws::{completions, ids, open_calls, pending};
+pub use qshared::history_laws::{in_real_time, is_beginning, taken_is_due};

@@ -1,5 +1,0 @@
-//! Laws of every lawful trace, and of what threads see of it. The functions do nothing: their contracts are the laws.
-
-pub use crate::fitting::results_fit_calls;
-pub use qlaws::{endings, ids, open_calls, pending};
-pub use qshared::laws::{in_real_time, is_beginning, taken_is_due};

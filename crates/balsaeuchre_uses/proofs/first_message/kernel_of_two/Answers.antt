@@ -1,5 +1,0 @@
-use Rattle.balsaeuchre_uses.proofs.Common.{StandsAt, [], subst}
-use Rattle.balsaeuchre_uses.proofs.first_message.kernel_of_two.Goals as goal
-
-pub returns : goal.returns
-returns c = subst (λ r. StandsAt r c.in_ok-new.field-0 []) c.in_ok-roster.ensures c.in_ok-new.ensures.stands

@@ -1,5 +1,0 @@
-use Rattle.balsaeuchre_uses.proofs.Common.{refl}
-use Rattle.balsaeuchre_uses.proofs.three_threads.roster_of_three.Goals as goal
-
-pub returns : goal.returns
-returns c = rw (c.in_ok-add-3.ensures.ok, c.in_ok-add-2.ensures.ok, c.in_ok-add.ensures.ok, c.new-roster.ensures, c.lowest.ensures, c.lowest-2.ensures, c.lowest-3.ensures) refl

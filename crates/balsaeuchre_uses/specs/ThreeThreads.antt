@@ -1,8 +1,0 @@
--- The roster of the examples with three threads.
-use Rattle.std.specs.Prelude.{List, [], ◌∷◌}
-use Rattle.qtables.specs.declared.member.Member.{Member}
-use Rattle.qworked.specs.Runs.{member}
-
--- a server, and two threads of one process, one of which is the client
-abbrev pub roster : List Member
-roster = member 1 1 1 ∷ member 2 2 1 ∷ member 3 2 1 ∷ []

@@ -1,6 +1,0 @@
-use Rattle.qcalls.proofs.Common.{pulse_in, refl}
-use Rattle.qcalls.proofs.Reading.{makes_read}
-use Rattle.qcalls.proofs.caller.Caller.msg_receive_pulse.Goals as goal
-
-pub returns-clause-makes : goal.returns-clause-makes
-returns-clause-makes g c = makes_read {read = pulse_in} c.make.ensures.makes refl c.in_ok-make.was c.pulse.ensures

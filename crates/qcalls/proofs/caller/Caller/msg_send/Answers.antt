@@ -1,6 +1,0 @@
-use Rattle.qcalls.proofs.Common.{answer_in, inl, rules}
-use Rattle.qcalls.proofs.Reading.{makes_read}
-use Rattle.qcalls.proofs.caller.Caller.msg_send.Goals as goal
-
-pub returns-clause-makes : goal.returns-clause-makes
-returns-clause-makes g c = inl (makes_read {read = answer_in} c.make.ensures.makes (search rules) c.in_ok-make.was c.answer.ensures)

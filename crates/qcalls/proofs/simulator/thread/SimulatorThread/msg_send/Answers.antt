@@ -1,6 +1,0 @@
-use Rattle.qcalls.proofs.Common.{Ok, answer_in, ap, done, inl, rules, ◌∙◌}
-use Rattle.qcalls.proofs.Simulated.{reads_unless_blocked}
-use Rattle.qcalls.proofs.simulator.thread.SimulatorThread.msg_send.Goals as goal
-
-pub returns-in-Done-clause-made : goal.returns-in-Done-clause-made
-returns-in-Done-clause-made c = inl (reads_unless_blocked answer_in c.make.ensures (search rules) (c.in_ok-ending.was ∙ ap Ok c.in-Done.is) (c.done.ensures ∙ ap done c.answer.ensures))

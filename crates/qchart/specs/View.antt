@@ -1,7 +1,0 @@
--- The part of a run that is drawn.
-use Rattle.std.specs.Prelude.{ℕ, ◌-◌, min}
-use Rattle.qchart.specs.declared.view.View.{View}
-
--- the number of calls that a view draws, of a run of this many
-abbrev pub drawn_count : View → ℕ → ℕ
-drawn_count view calls = min view.to calls - (view.from - 1)

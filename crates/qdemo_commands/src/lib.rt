@@ -1,0 +1,20 @@
+//! Unproved: words and layout. The program without the server on threads: its command line, scripts and
+//! designs.
+#![tactic(auto)]
+
+pub mod charts;
+pub mod check;
+pub mod colours;
+pub mod command;
+pub mod completion;
+pub mod designs;
+pub mod difference;
+pub mod example;
+pub mod json;
+pub mod names;
+pub mod play;
+pub mod remarks;
+pub mod scripts;
+pub mod streams;
+pub mod summary;
+pub mod texts;

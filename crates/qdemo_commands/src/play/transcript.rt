@@ -1,0 +1,281 @@
+//! Unproved: words and layout. The lines of a play: a plain script, or a script with names from the first
+//! line on that isn't plain.
+
+use qbase::ids::ThreadNo;
+use qkernel::kernel::Kernel;
+use qmodel::call::Call;
+use qscript::fault::{LineFault, ScriptFault};
+use qscript_explain::session::ScriptSession;
+use qscript_names::incremental::IncrementalScript;
+use qscript_names::scope::Scope;
+use qscript_names::wording::Context;
+use qscript_names::{NamedReading, read_so_far};
+use qscript_text::MOST_TEXT;
+use qscript_text::parts::{Lines, last_line};
+use qscript_text::place::Fault;
+use qscript_text::reading::line::ScriptLine;
+use std::alloc::{AllocError, Global};
+
+/// The outcome of adding lines.
+#[derive(Drop)]
+pub enum Accepted {
+    /// The lines are added. The bytes are their part of the trace, without the lines of blocked threads. The
+    /// faults are the differences from the expectations that weren't reported before.
+    Added(Vec<u8>, Vec<Fault>),
+    /// The line with this number isn't a valid line of a plain script. It is counted from the first line of
+    /// the sheet.
+    Plain(u64, LineFault),
+    /// The lines aren't valid lines of a script with names.
+    Named(Vec<Fault>),
+}
+
+/// Lines with names, as they were read, and their meaning.
+#[derive(Drop)]
+struct NamedLines {
+    text: Vec<u8>,
+    growing: IncrementalScript,
+    /// The trace with names.
+    trace: String,
+}
+
+/// The lines so far, and their run.
+#[derive(Drop)]
+pub struct Transcript {
+    alloc: Global,
+    session: ScriptSession,
+    names: Option<NamedLines>,
+    /// Whether names are printed, once the lines have them.
+    in_names: bool,
+    no_names: Scope,
+}
+
+/// Returns whether a line has a sign that plain lines have only in comments: `=`, `->`, `;`, quotes or
+/// brackets.
+fn has_signs(line: &[u8]) -> bool {
+    let mut before = b' ';
+    for byte in line {
+        match *byte {
+            b'#' => return false,
+            b'=' | b';' | b'"' | b'[' => return true,
+            b'>' if before == b'-' => return true,
+            _ => before = *byte,
+        }
+    }
+    false
+}
+
+/// Appends lines to a text, with a line end after the last line.
+fn push_lines(text: &mut Vec<u8>, lines: &[u8]) -> Result<(), AllocError> {
+    text.extend_from_slice(lines)?;
+    if lines.last() != Some(&b'\n') {
+        text.push(b'\n')?;
+    }
+    Ok(())
+}
+
+/// Returns the kernel of a session, or `None` before its first call.
+fn kernel_of(session: &ScriptSession) -> Option<&Kernel> {
+    Some(session.run()?.run().kernel())
+}
+
+/// Returns the number of lines of a text in which each line has its end.
+fn line_count(text: &[u8]) -> usize {
+    text.iter().filter(|byte| **byte == b'\n').count()
+}
+
+impl NamedLines {
+    /// Makes a call, and compares its completions with the expectations of the lines.
+    fn make(
+        &mut self,
+        session: &mut ScriptSession,
+        thread: ThreadNo,
+        call: Call,
+    ) -> Result<(), AllocError> {
+        session.make(thread, call).map_err(|_| AllocError)?;
+        if let Some(run) = session.run() {
+            let completions = run.run().completions();
+            self.growing.check.follow(run.run().kernel(), completions)?;
+            self.growing.check.push_trace(&mut self.trace, completions)?;
+        }
+        Ok(())
+    }
+
+    /// Adds the threads to the run and makes the calls. Returns the differences from the expectations.
+    fn make_all(
+        &mut self,
+        session: &mut ScriptSession,
+        calls: Vec<(ThreadNo, Call)>,
+    ) -> Result<Vec<Fault>, AllocError> {
+        for member in self.growing.roster() {
+            session.add_member(*member)?;
+        }
+        self.growing.check.compare_states(None)?;
+        for (thread, call) in calls {
+            self.make(session, thread, call)?;
+        }
+        self.growing.check.take_faults()
+    }
+
+    /// Adds a line, and adds its content to the run, unless it is faulty. Returns its faults.
+    fn add(&mut self, session: &mut ScriptSession, line: &[u8]) -> Result<Vec<Fault>, AllocError> {
+        let read = match self.growing.add(line)? {
+            Ok(read) => read,
+            Err(faults) => return Ok(faults),
+        };
+        match read {
+            ScriptLine::Roster(member) => session.add_member(member)?,
+            ScriptLine::Call(thread, call) => self.make(session, thread, call)?,
+            ScriptLine::Blank => self.growing.check.compare_states(kernel_of(session))?,
+        }
+        push_lines(&mut self.text, line)?;
+        Ok(Vec::new(session.alloc()))
+    }
+}
+
+impl Transcript {
+    /// Returns a sheet without lines.
+    pub fn new(alloc: Global, in_names: bool) -> Transcript {
+        Transcript {
+            alloc,
+            session: ScriptSession::new(alloc),
+            names: None,
+            in_names,
+            no_names: Scope::new(alloc),
+        }
+    }
+
+    /// Returns the names that are printed: the names of the lines so far, or none.
+    pub fn shown(&self) -> Context<'_> {
+        match &self.names {
+            Some(names) if self.in_names => names.growing.check.context(),
+            _ => Context::plain(self.alloc, &self.no_names),
+        }
+    }
+
+    /// Returns the trace of the lines so far.
+    fn trace(&self) -> &[u8] {
+        match &self.names {
+            Some(names) if self.in_names => names.trace.as_bytes(),
+            _ => self.session.trace().as_bytes(),
+        }
+    }
+
+    /// Returns the run of the lines so far.
+    pub fn session(&self) -> &ScriptSession {
+        &self.session
+    }
+
+    /// Returns whether the lines so far are a script with names.
+    pub fn has_names(&self) -> bool {
+        self.names.is_some()
+    }
+
+    /// Returns the lines so far, as they were read.
+    pub fn text(&self) -> &[u8] {
+        match &self.names {
+            Some(names) => names.text.as_slice(),
+            None => self.session.text(),
+        }
+    }
+
+    /// Adds a line of a plain script. If it isn't valid there, adds it as a line with names, and the lines
+    /// are a script with names from then on.
+    pub fn add(&mut self, line: &[u8]) -> Result<Accepted, ScriptFault> {
+        if self.names.is_some() {
+            return Ok(self.add_named_line(line)?);
+        }
+        let plain = self.add_plain(line)?;
+        if !matches!(plain, Accepted::Plain(..)) {
+            return Ok(plain);
+        }
+        let named = self.add_named(line)?;
+        let is_plain = matches!(named, Accepted::Named(_)) && !has_signs(line);
+        Ok(if is_plain { plain } else { named })
+    }
+
+    /// Adds lines of a plain script.
+    pub fn add_plain(&mut self, lines: &[u8]) -> Result<Accepted, ScriptFault> {
+        match self.session.add(lines) {
+            Ok(printed) => Ok(Accepted::Added(printed, Vec::new(self.alloc))),
+            Err(ScriptFault::Line { number, fault }) => Ok(Accepted::Plain(number, fault)),
+            Err(other) => Err(other),
+        }
+    }
+
+    /// Adds a line to a script with names.
+    fn add_named_line(&mut self, line: &[u8]) -> Result<Accepted, AllocError> {
+        let shown = line_count(self.trace());
+        match &mut self.names {
+            Some(names) if names.text.len().saturating_add(line.len()) < MOST_TEXT => {
+                let faults = names.add(&mut self.session, line)?;
+                if !faults.is_empty() {
+                    return Ok(Accepted::Named(faults));
+                }
+                let faults = names.growing.check.take_faults()?;
+                self.added(shown, faults)
+            }
+            _ => self.add_named(line),
+        }
+    }
+
+    /// Returns the outcome of lines that were added. `shown` is the number of lines of the trace before that.
+    fn added(&self, shown: usize, faults: Vec<Fault>) -> Result<Accepted, AllocError> {
+        let mut lines = Lines(self.trace());
+        for _ in 0..shown {
+            lines.next();
+        }
+        Ok(Accepted::Added(Vec::from_slice(self.alloc, lines.0)?, faults))
+    }
+
+    /// Adds lines of a script with names. The script is run again from its first line.
+    pub fn add_named(&mut self, lines: &[u8]) -> Result<Accepted, AllocError> {
+        let mut text = Vec::from_slice(self.alloc, self.text())?;
+        push_lines(&mut text, lines)?;
+        self.run_again(text)
+    }
+
+    /// Runs a script with names from its first line, in place of the lines so far. If it is faulty, nothing
+    /// changes.
+    fn run_again(&mut self, text: Vec<u8>) -> Result<Accepted, AllocError> {
+        let shown = line_count(self.trace());
+        let named = match read_so_far(self.alloc, text.as_slice())? {
+            NamedReading::Good(named) => named,
+            NamedReading::Faulty(faults) => return Ok(Accepted::Named(faults)),
+        };
+        let (growing, calls) = IncrementalScript::of(self.alloc, named)?;
+        let mut session = ScriptSession::new(self.alloc);
+        let mut names = NamedLines {
+            text,
+            growing,
+            trace: String::new(self.alloc),
+        };
+        let faults = names.make_all(&mut session, calls)?;
+        self.session = session;
+        self.names = Some(names);
+        self.added(shown, faults)
+    }
+
+    /// Removes the last line that is neither empty nor a comment, and returns it. The lines above it are run
+    /// again.
+    pub fn undo(&mut self) -> Result<Option<Vec<u8>>, AllocError> {
+        if self.names.is_none() {
+            return self.session.undo().map_err(|_| AllocError);
+        }
+        let Some((start, line)) = last_line(self.text()) else {
+            return Ok(None);
+        };
+        let line = Vec::from_slice(self.alloc, line)?;
+        let mut front = Vec::from_slice(self.alloc, self.text())?;
+        front.truncate(start);
+        self.run_again(front)?;
+        Ok(Some(line))
+    }
+
+    /// Returns the differences from the expectations at the end of the lines that weren't reported before.
+    pub fn finish(&mut self) -> Result<Vec<Fault>, AllocError> {
+        match &mut self.names {
+            Some(names) => names.growing.finish(kernel_of(&self.session)),
+            None => Ok(Vec::new(self.alloc)),
+        }
+    }
+}

@@ -1,0 +1,118 @@
+//! Unproved: words and layout. Runs a script, from a file or from standard input.
+
+use crate::command::ScriptRun;
+use crate::completion::{ExitResult, end_failed, end_quietly, end_unread, end_with, print_text};
+use crate::json::trace_json;
+use crate::names::{is_named, run_named};
+use crate::remarks;
+use crate::remarks::tell_faults;
+use crate::streams::{KeptReader, Outlet};
+use qscript::fault::ScriptFault;
+use qscript::script::script;
+use qscript::transfer::read_all;
+use qscript::watched::Watched;
+use qscript_explain::report::explained;
+use std::io::Read;
+use std::process::ExitCode;
+use std::rt::Files;
+use std::{fs, io};
+
+/// Runs a script, from a file or from standard input. It is a script with names if its file is called
+/// `NAME.names` or `names_in` is set, and a plain script otherwise. A faulty line is explained on a terminal,
+/// or if explanations are requested.
+pub fn run_script<R: Files + Input + Print + Eprint + AllocGlobal>(
+    rt: &R,
+    run: &ScriptRun,
+) -> ExitResult {
+    let file = run.file.as_deref();
+    match file {
+        _ if run.names_in || file.is_some_and(is_named) => run_named(rt, run),
+        _ if run.plain => {
+            let why = "--plain needs a script with names: a file NAME.names, or --names-in";
+            Err(end_with(rt, why, 2))
+        }
+        None => run_plain(rt, run, rt.reader()),
+        Some(name) => match fs::open(rt, name) {
+            Ok(file) => run_plain(rt, run, file),
+            Err(error) => Err(end_unread(rt, name, error)),
+        },
+    }
+}
+
+/// Runs the plain script from this reader.
+fn run_plain<R: Print + Eprint + AllocGlobal, S: Read + Drop>(
+    rt: &R,
+    run: &ScriptRun,
+    input: S,
+) -> ExitResult {
+    if run.explain || run.strict || run.json {
+        return explain_from(rt, run, input);
+    }
+    let keeps = run.screen.errors || run.file.is_some();
+    let mut reader = Watched::new(KeptReader::new(rt.alloc(), input, keeps));
+    let mut writer = Watched::new(Outlet::new(io::writer(rt)));
+    match script(rt.alloc(), &mut reader, &mut writer) {
+        Ok(()) => Ok(ExitCode::SUCCESS),
+        Err(ScriptFault::Write) if writer.into_inner().is_closed() => Err(end_quietly()),
+        Err(fault) => Err(end_faulty(rt, run, fault, &reader.into_inner())),
+    }
+}
+
+/// Runs the script from this reader, and reports on the same run. With `--strict` the status is 1 if a call
+/// failed.
+fn explain_from<R: Print + Eprint + AllocGlobal, S: Read + Drop>(
+    rt: &R,
+    run: &ScriptRun,
+    input: S,
+) -> ExitResult {
+    let mut reader = Watched::new(KeptReader::new(rt.alloc(), input, true));
+    let text = read_all(rt.alloc(), &mut reader);
+    let explained = text.and_then(|text| explained(rt.alloc(), text.as_slice()));
+    let source = reader.into_inner();
+    let (trace, report) = explained.map_err(|fault| end_faulty(rt, run, fault, &source))?;
+    print_trace(rt, run, trace.as_str())?;
+    if run.explain {
+        let text = source.text().unwrap_or(&[]);
+        let file = run.file.as_deref();
+        let told = remarks::FaultSource::new(file, text, true, run.screen.colours.errors);
+        let _ = told.tell_report(rt, &report);
+    }
+    let is_refused = run.strict && report.failures > 0;
+    Ok(ExitCode::from(u8::from(is_refused)))
+}
+
+/// Prints a trace, or its objects of JSON if they are requested.
+pub fn print_trace<R: Print + Eprint + AllocGlobal>(
+    rt: &R,
+    run: &ScriptRun,
+    trace: &str,
+) -> Result<(), ExitCode> {
+    if !run.json {
+        return print_text(rt, trace);
+    }
+    let objects = trace_json(rt.alloc(), trace).map_err(|_| end_failed(rt, "out of memory"))?;
+    print_text(rt, objects.as_str())
+}
+
+/// Ends the program for a script that has no run, and prints why. If explanations are requested, or on a
+/// terminal, its faults are explained. Otherwise only the first fault is printed, with its place if the
+/// script has a file.
+fn end_faulty<R: Eprint + AllocGlobal, S>(
+    rt: &R,
+    run: &ScriptRun,
+    fault: ScriptFault,
+    source: &KeptReader<S>,
+) -> ExitCode {
+    let file = run.file.as_deref();
+    if let (ScriptFault::Read, Some(name), Some(error)) = (&fault, file, source.error()) {
+        return end_unread(rt, name, error);
+    }
+    if let (ScriptFault::Line { .. }, Some(text)) = (&fault, source.text()) {
+        let shows = run.explain || run.screen.errors;
+        let faulty = remarks::FaultSource::new(file, text, shows, run.screen.colours.errors);
+        if tell_faults(rt, faulty) {
+            return ExitCode::from(fault.status());
+        }
+    }
+    end_with(rt, format_args!("{fault}"), fault.status())
+}

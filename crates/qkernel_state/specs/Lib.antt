@@ -1,0 +1,11 @@
+pub mod Kept
+pub mod Thread
+pub mod Index
+pub mod Threads
+pub mod Channel
+pub mod Copies
+pub mod Held
+pub mod Unread
+pub mod Pulses
+pub mod Completions
+pub mod Cancelling

@@ -1,5 +1,0 @@
-use Rattle.qlaws.proofs.UnblockLaws.{one_unblock_pulse}
-use Rattle.qlaws.proofs.pending.one_unblock_pulse.Goals as goal
-
-pub returns : goal.returns
-returns c = one_unblock_pulse

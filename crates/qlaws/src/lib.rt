@@ -1,9 +1,0 @@
-//! Laws of every lawful trace, which follow from the rules of the kernel's calls. The functions do nothing: the
-//! contract of each is a law. No code of a kernel uses them; they show a reader that the definitions mean what they
-//! should.
-#![tactic(auto)]
-
-pub mod endings;
-pub mod ids;
-pub mod open_calls;
-pub mod pending;

@@ -1,5 +1,0 @@
-use Rattle.std.proofs.Common.{◌≡◌, refl, ◌∙◌}
-use Rattle.qnames.proofs.scope.Scope.go_back.Goals as goal
-
-pub invariant_of-self : goal.invariant_of-self
-invariant_of-self c = λ name. c.in_ok-places.ensures name ∙ rw (c.truncate-2.ensures.items, c.as_slice.ensures.value) refl

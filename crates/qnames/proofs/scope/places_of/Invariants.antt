@@ -1,6 +1,0 @@
-use Rattle.qnames.proofs.Common.{take, get_by_text}
-use Rattle.qnames.specs.Scope.{HasPlaces}
-use Rattle.qnames.proofs.scope.places_of.Given as goal
-
-abbrev pub invariant-labels : goal.invariant-labels
-invariant-labels l = HasPlaces (get_by_text l.places) (take l.place l.labels)

@@ -1,5 +1,0 @@
-pub mod Names
-pub mod Scope
-pub mod Plain
-pub mod Translation
-pub mod Laws

@@ -1,8 +1,0 @@
-//! Reads the text of a script with names.
-
-pub mod calls;
-pub mod endings;
-pub mod forms;
-pub mod operands;
-pub mod script;
-pub mod threads;

@@ -1,5 +1,0 @@
-pub mod Values
-pub mod Programs
-pub mod Endings
-pub mod Standing
-pub mod Machine

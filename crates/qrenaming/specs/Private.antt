@@ -1,3 +1,0 @@
--- Words of the proofs: renaming of the facts and rows of `qmodel`.
-pub mod Renaming
-pub mod Laws

@@ -1,0 +1,12 @@
+pub mod Common
+pub mod Lists
+pub mod OpenCallLaws
+pub mod CompletionLaws
+pub mod PendingLaws
+pub mod UnblockLaws
+pub mod PlaceLaws
+pub mod IdLaws
+pub mod LimitLaws
+pub mod OrderLaws
+pub mod PriorityLaws
+pub mod SettingLaws

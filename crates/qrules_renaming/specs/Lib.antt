@@ -1,0 +1,3 @@
+pub mod Renaming
+pub mod RenamingLaws
+pub mod Private

@@ -1,5 +1,0 @@
-use Rattle.qscript.proofs.Written.Scripts as scripts
-use Rattle.qscript.proofs.writing.laws.scripts_are_read.Goals as goal
-
-pub returns : goal.returns
-returns c = scripts.scripts_are_read

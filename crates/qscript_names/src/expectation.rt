@@ -1,0 +1,87 @@
+//! The expectations of a script with names.
+
+use crate::line::{NameMention, Operand};
+use qbase::bytes::Bytes;
+use qmodel::kind::CallKind;
+use qscript_text::place::Place;
+use qscript_text::word::Word;
+
+/// The part of a script that is read.
+#[derive(Clone, Copy, PartialEq, Eq)]
+pub enum Extent {
+    /// All lines.
+    Whole,
+    /// The lines so far. More will follow, and they may complete calls that are open now.
+    Front,
+}
+
+/// A pattern for one part of a completion. A trace prints the parts in the same order.
+#[derive(Drop)]
+pub enum ExpectedResult {
+    /// This word.
+    Word(&'static str),
+    /// This number.
+    Number(i128),
+    /// The number of this name.
+    Named(NameMention),
+    /// The number of the process with this name.
+    Process(Word),
+    /// A buffer that begins with these bytes.
+    Front(Bytes),
+    /// Anything.
+    Any,
+}
+
+/// The expected result of a call.
+#[derive(Drop)]
+pub enum ExpectedCompletion {
+    /// The call doesn't complete in its own event.
+    Blocked,
+    /// The first parts of the completion match these patterns.
+    Parts(Vec<ExpectedResult>),
+}
+
+/// The expected result of a call, with its text and its place.
+#[derive(Drop)]
+pub struct Expectation {
+    pub completion: ExpectedCompletion,
+    /// The result as written.
+    pub text: Word,
+    pub place: Place,
+}
+
+/// The expected result of another call, which the call of the line completes.
+#[derive(Drop)]
+pub struct Follower {
+    /// The name of the completed call, which that call's own line defines.
+    pub name: Word,
+    pub place: Place,
+    pub expectation: Expectation,
+}
+
+/// The expectations of the line of a call.
+#[derive(Drop)]
+pub struct CallCheck {
+    pub kind: CallKind,
+    /// The place of the word that names the call.
+    pub place: Place,
+    /// The expected result of this call, if the line has one.
+    pub own: Option<Expectation>,
+    /// The expected results of other calls, which this call completes.
+    pub followers: Vec<Follower>,
+}
+
+/// A line with the expected state of a thread.
+#[derive(Drop)]
+pub struct StateCheck {
+    /// The number of calls above it.
+    pub calls: u64,
+    pub thread: Operand,
+    /// The name of the state, or `blocked` for any of the three blocked states.
+    pub state: &'static str,
+    /// The channel on which the thread is blocked, if the line names it.
+    pub channel: Option<Operand>,
+    /// The text of the line after `is`, as written.
+    pub text: Word,
+    pub place: Place,
+}

@@ -1,0 +1,19 @@
+//! Reads scripts with names, translates them into plain scripts, and compares runs with their expectations.
+#![tactic(auto)]
+
+pub mod expectation;
+pub mod expecting;
+pub mod hints;
+pub mod incremental;
+pub mod label;
+pub mod line;
+pub mod named;
+pub mod names_laws;
+pub mod plain;
+pub mod reading;
+pub mod scope;
+pub mod shown;
+pub mod translation;
+pub mod wording;
+
+pub use named::{NamedReading, NamedScript, read, read_so_far};

@@ -1,0 +1,292 @@
+//! Reads and translates a script with names.
+
+use crate::expectation::{Extent, StateCheck};
+use crate::expecting::check::ExpectationCheck;
+use crate::expecting::names::NameCheck;
+use crate::hints::is_utf_16;
+use crate::label::NameFault;
+use crate::line::{CallLine, LineKind, NamedLine, Operand, Process};
+use crate::plain::plain_of;
+use crate::reading::script::{Lined, lines_behind};
+use crate::scope::Scope;
+use crate::translation::{Refusal, translate};
+use crate::wording::{Context, Usage};
+use qscript_text::fault::{LineFault, ScriptFault};
+use qscript_text::parts::Lines;
+use qscript_text::place::{Fault, Place};
+use qscript_text::word::Word;
+use qscript_text::{MOST_TEXT, Script};
+use std::alloc::{AllocError, Global};
+use std::mem;
+
+/// A script with names whose plain script can run.
+#[derive(Drop)]
+pub struct NamedScript {
+    /// The plain script.
+    pub text: String,
+    /// The meaning of the plain script.
+    pub script: Script,
+    /// The expectations of its run.
+    pub check: ExpectationCheck,
+    /// The numbers that lines of threads have for their processes, with their places.
+    pub processes: Vec<(Place, u64)>,
+    /// The number of its lines.
+    pub lines: u64,
+}
+
+/// The result of reading a script with names.
+#[derive(Drop)]
+pub enum NamedReading {
+    /// It can run.
+    Good(NamedScript),
+    /// The faults, in the order of its lines, at most `MOST_FAULTS`.
+    Faulty(Vec<Fault>),
+}
+
+/// The most faults of a text that are reported.
+pub const MOST_FAULTS: usize = 20;
+
+/// The place of the first byte of a text.
+const START: Place = Place { line: 1, column: 1 };
+
+/// NamedFaults with their messages, or an error if there is no memory for them.
+type NamedFaults = Result<Vec<Fault>, AllocError>;
+
+/// Returns a list of one fault.
+fn single(alloc: Global, place: Place, what: Result<String, AllocError>) -> NamedFaults {
+    Ok(vec![in alloc; Fault { place, what: what? }]?)
+}
+
+/// A name, the way in which a line uses it, and the kind that it must have.
+type NameLookup<'a> = (&'a Word, Usage<'a>, LineKind);
+
+/// Returns the use of a name by an operand, if the name is at this place.
+fn use_by<'a>(operand: &'a Operand, usage: Usage<'a>, place: Place) -> Option<NameLookup<'a>> {
+    match operand {
+        Operand::Name(mention) if mention.place == place => {
+            Some((&mention.name, usage, mention.expected))
+        }
+        _ => None,
+    }
+}
+
+/// Returns the use of a name at a place of a call's line.
+fn use_in<'a>(call: &'a CallLine, place: Place) -> Option<NameLookup<'a>> {
+    for operand in &call.operands {
+        let used = use_by(operand, Usage::Operand(call.verb.as_str()), place);
+        if used.is_some() {
+            return used;
+        }
+    }
+    use_by(&call.caller, Usage::Caller, place)
+}
+
+/// Returns the use of a name at a place, or its definition.
+fn use_at<'a>(lines: &'a [NamedLine], place: Place) -> Option<NameLookup<'a>> {
+    for line in lines {
+        let (definition, used) = match line {
+            NamedLine::Aside(_) => continue,
+            NamedLine::Thread(thread) => (&thread.definition, None),
+            NamedLine::Call(call) => (&call.definition, use_in(call, place)),
+        };
+        match definition {
+            _ if used.is_some() => return used,
+            Some(definition) if definition.place == place => {
+                return Some((&definition.name, Usage::Caller, definition.kind));
+            }
+            _ => {}
+        }
+    }
+    None
+}
+
+/// Returns the first faults of the names of the lines, with their messages.
+pub fn name_faults(lines: &[NamedLine], context: Context<'_>, faults: &[NameFault]) -> NamedFaults {
+    let mut told = Vec::new(context.alloc);
+    for fault in faults.iter().take(MOST_FAULTS) {
+        let place = fault.place;
+        if let Some((name, usage, kind)) = use_at(lines, place) {
+            let what = context.words(name, usage, kind, fault.error)?;
+            told.push(Fault { place, what })?;
+        }
+    }
+    Ok(told)
+}
+
+/// Returns the faults of the names in the expectations, with their messages.
+fn expectation_faults(context: Context<'_>, states: &[StateCheck], extent: Extent) -> NamedFaults {
+    let mut names = NameCheck::new(context, extent);
+    for call in context.calls {
+        names.call(call)?;
+    }
+    for state in states {
+        names.state(state)?;
+    }
+    Ok(names.faults)
+}
+
+/// Adds the number that the line of a thread has for its process, with its place.
+pub fn push_process_number(
+    numbers: &mut Vec<(Place, u64)>,
+    line: &NamedLine,
+) -> Result<(), AllocError> {
+    if let NamedLine::Thread(thread) = line
+        && let Process::Number(number) = &thread.process
+    {
+        numbers.push((thread.place, *number))?;
+    }
+    Ok(())
+}
+
+/// Returns the faults of process numbers: a line has the number of a process that has a name.
+pub fn process_faults(alloc: Global, numbers: &[(Place, u64)], scope: &Scope) -> NamedFaults {
+    let mut faults = Vec::new(alloc);
+    for (place, number) in numbers {
+        let at = number.wrapping_sub(1) as usize;
+        if let Some(name) = scope.process_names().get(at) {
+            let what = format!(in alloc; "process {name} has this number: write its name")?;
+            let place = *place;
+            faults.push(Fault { place, what })?;
+        }
+    }
+    Ok(faults)
+}
+
+/// Returns the fault of a line of the plain script, with its message.
+pub fn line_fault(alloc: Global, line: u64, fault: LineFault) -> NamedFaults {
+    let place = Place { line, column: 1 };
+    let words = match fault {
+        LineFault::LongLine => "expected at most 4,096 bytes in the line's plain form",
+        LineFault::DoubleThread => "another thread has this number",
+        LineFault::TooManyThreads => "expected at most 64 threads in a script",
+        LineFault::UnknownThread => "no thread has this number",
+        other => return single(alloc, place, format!(in alloc; "{other}")),
+    };
+    single(alloc, place, String::from_str(alloc, words))
+}
+
+/// Returns the faults of lines that can't be translated, with their messages. A line has the same number in
+/// the plain script.
+fn refusal_faults(alloc: Global, lined: &Lined, refusal: &Refusal) -> NamedFaults {
+    match refusal {
+        Refusal::Memory | Refusal::Script(ScriptFault::NoMemory) => Err(AllocError),
+        Refusal::Names(faults) => {
+            let scope = Scope::after(alloc, lined.lines.as_slice())?;
+            let context = lined.context(&scope);
+            name_faults(lined.lines.as_slice(), context, faults.as_slice())
+        }
+        Refusal::Script(ScriptFault::Line { number, fault }) => line_fault(alloc, *number, *fault),
+        Refusal::Script(fault) => single(alloc, START, format!(in alloc; "{fault}")),
+    }
+}
+
+/// Returns whether a fault is about an undefined name that occurs in one of these faulty lines. Such a fault
+/// may only be a consequence of theirs. It is recognized by the words of its message.
+fn follows(fault: &Fault, faulty: &[&[u8]]) -> bool {
+    let mut words = fault.what.as_str().split(' ');
+    let name = match (words.next(), words.next(), words.last()) {
+        (Some(name), Some("isn't"), _) => name,
+        (Some("no"), Some("thread's"), Some(name)) => name,
+        _ => return false,
+    };
+    let is_end = |byte: &u8| !byte.is_ascii_alphanumeric() && !b"_-.".contains(byte);
+    let mut lines = faulty.iter();
+    lines.any(|line| line.split(is_end).any(|word| word == name.as_bytes()))
+}
+
+/// Returns the faults of the names of lines, and then the faults of the names in their expectations.
+fn lined_faults(alloc: Global, lined: &Lined, extent: Extent) -> NamedFaults {
+    let plain = plain_of(alloc, lined.lines.as_slice())?;
+    let context = lined.context(&plain.scope);
+    let mut faults = name_faults(lined.lines.as_slice(), context, plain.faults.as_slice())?;
+    let mut unmet = expectation_faults(context, lined.states.as_slice(), extent)?;
+    faults.append(&mut unmet)?;
+    Ok(faults)
+}
+
+/// Returns the faults of lines, and the faults of names in the other lines that aren't consequences of them.
+fn all_faults(alloc: Global, text: &[u8], lined: &mut Lined, extent: Extent) -> NamedFaults {
+    let most = if is_utf_16(text) { 1 } else { MOST_FAULTS };
+    lined.faults.truncate(most);
+    let mut faulty = Vec::new(alloc);
+    for fault in &lined.faults {
+        let number = fault.place.line.saturating_sub(1) as usize;
+        faulty.push(Lines(text).nth(number).unwrap_or(&[]))?;
+    }
+    for fault in lined_faults(alloc, lined, extent)? {
+        if !follows(&fault, faulty.as_slice()) {
+            lined.faults.push(fault)?;
+        }
+    }
+    lined.faults.sort_by_key(|fault| fault.place.line)?;
+    lined.faults.truncate(MOST_FAULTS);
+    Ok(mem::replace(&mut lined.faults, Vec::new(alloc)))
+}
+
+/// Reads the text of a script with names.
+pub fn read(alloc: Global, text: &[u8]) -> Result<NamedReading, AllocError> {
+    read_lines(alloc, text, Extent::Whole)
+}
+
+/// Reads the first lines of a script with names. A name in an expected result may be defined by a later line.
+pub fn read_so_far(alloc: Global, text: &[u8]) -> Result<NamedReading, AllocError> {
+    read_lines(alloc, text, Extent::Front)
+}
+
+/// Reads the lines of this part of a script.
+fn read_lines(alloc: Global, text: &[u8], extent: Extent) -> Result<NamedReading, AllocError> {
+    if text.len() > MOST_TEXT {
+        let what = String::from_str(alloc, "script too long");
+        return single(alloc, START, what).map(NamedReading::Faulty);
+    }
+    let mut lined = lines_behind(alloc, text, 0, 0)?;
+    if lined.faults.is_empty() {
+        read_lined(alloc, &mut lined, extent)
+    } else {
+        all_faults(alloc, text, &mut lined, extent).map(NamedReading::Faulty)
+    }
+}
+
+/// Reads lines that have no faults of their own.
+fn read_lined(
+    alloc: Global,
+    lined: &mut Lined,
+    extent: Extent,
+) -> Result<NamedReading, AllocError> {
+    let translation = match translate(alloc, lined.lines.as_slice()) {
+        Ok(translation) => translation,
+        Err(refusal) => return refusal_faults(alloc, lined, &refusal).map(NamedReading::Faulty),
+    };
+    let calls = mem::replace(&mut lined.calls, Vec::new(alloc));
+    let states = mem::replace(&mut lined.states, Vec::new(alloc));
+    let mut named = NamedScript {
+        text: translation.text,
+        script: translation.script,
+        check: ExpectationCheck::new(alloc, translation.scope, calls, states),
+        processes: Vec::new(alloc),
+        lines: lined.count,
+    };
+    match add_processes(alloc, &mut named, lined.lines.as_slice(), extent) {
+        Ok(faults) if faults.is_empty() => Ok(NamedReading::Good(named)),
+        faults => faults.map(NamedReading::Faulty),
+    }
+}
+
+/// Adds the process numbers of these lines, and returns their faults. If there are none, returns the faults
+/// of the names in the expectations.
+fn add_processes(
+    alloc: Global,
+    named: &mut NamedScript,
+    lines: &[NamedLine],
+    extent: Extent,
+) -> NamedFaults {
+    for line in lines {
+        push_process_number(&mut named.processes, line)?;
+    }
+    let check = &named.check;
+    let faults = process_faults(alloc, named.processes.as_slice(), &check.scope)?;
+    if faults.is_empty() {
+        return expectation_faults(check.context(), check.states.as_slice(), extent);
+    }
+    Ok(faults)
+}

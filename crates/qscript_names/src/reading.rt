@@ -1,0 +1,8 @@
+//! Reads the text of a script with names.
+
+pub mod calls;
+pub mod completions;
+pub mod forms;
+pub mod operands;
+pub mod script;
+pub mod threads;

@@ -1,0 +1,123 @@
+//! Reads the operands of a line, by their sorts.
+
+ghost use Rattle.std.specs.Prelude.{◌≡◌, IfOk, Ok};
+ghost use Rattle.qscript_text.specs.Reading.Forms.{member_of, no_values, value_behind, value_of, values_of};
+ghost use Rattle.qscript_text.specs.Reading.Steps.{Gives};
+ghost use Rattle.qscript_text.specs.Reading.Words.{words_of};
+
+use crate::fault::{LineFault, ParseError};
+use crate::reading::bytes::bytes_said;
+use crate::reading::number::{byte, narrow, number, priority, small, wide};
+use crate::reading::words::next_word;
+use qbase::bytes::Bytes;
+use qbase::ids::{ProcessNo, ThreadNo};
+use qmodel::operands::{OperandKind, Operands};
+use qtables::member::Member;
+use std::alloc::{AllocError, Global};
+
+/// The values of the operands of a line.
+#[derive(Debug, Drop)]
+pub struct Values {
+    pub numbers: Operands,
+    /// A message, or data.
+    pub bytes: Bytes,
+    /// A buffer, or a reply buffer.
+    pub buffer: Bytes,
+}
+
+impl Values {
+    /// Returns the values of a line without operands.
+    pub fn none(alloc: Global) -> Values
+        ensures { result ≡ no_values }
+    {
+        Values {
+            numbers: Operands::none(),
+            bytes: Bytes::new(alloc),
+            buffer: Bytes::new(alloc),
+        }
+    }
+
+    /// Returns the values with one more operand, which is read from a word as this sort.
+    pub fn with(self, alloc: Global, sort: OperandKind, word: &[u8]) -> Result<Values, ParseError>
+        ensures { Gives result (value_of sort word.now self) }
+    {
+        let mut values = self;
+        match sort {
+            OperandKind::Thread => values.numbers.thread = ThreadNo(small(word)?),
+            OperandKind::Process => values.numbers.process = ProcessNo(small(word)?),
+            OperandKind::Priority => values.numbers.priority = priority(word)?,
+            OperandKind::Flags => values.numbers.flags = small(word)?,
+            OperandKind::Channel | OperandKind::Connection | OperandKind::ReceiveId => {
+                values.numbers.id = number(word)?
+            }
+            OperandKind::Offset => values.numbers.offset = number(word)? as usize,
+            OperandKind::Status => values.numbers.status = wide(word)?,
+            OperandKind::ErrorCode => values.numbers.code = narrow(word)?,
+            OperandKind::PulseCode => values.numbers.pulse_code = byte(word)?,
+            OperandKind::Value => values.numbers.value = narrow(word)?,
+            OperandKind::Message | OperandKind::Data => values.bytes = bytes_said(alloc, word)?,
+            OperandKind::ReplyBuffer | OperandKind::Buffer => values.buffer = bytes_said(
+                alloc, word,
+            )?,
+        }
+        Ok(values)
+    }
+
+    /// Reads words as operands of these sorts. If the number of words is wrong, the fault is `WordCount`.
+    /// Otherwise it is the fault of the first faulty word.
+    pub fn read(alloc: Global, sorts: &[OperandKind], words: &[u8]) -> Result<Values, ParseError>
+        ensures { Gives result (values_of sorts.now (words_of words.now) (Ok no_values)) }
+    {
+        let mut read = Ok(Values::none(alloc));
+        let mut rest = words;
+        for sort in sorts {
+            let Some((word, behind)) = next_word(rest) else {
+                return Err(ParseError::Fault(LineFault::WordCount));
+            };
+            read = with_next(alloc, read, *sort, word)?;
+            rest = behind;
+        }
+        if next_word(rest).is_some() {
+            return Err(ParseError::Fault(LineFault::WordCount));
+        }
+        Ok(read?)
+    }
+}
+
+/// Reads one more word, unless an earlier word was faulty. Then the earlier fault is kept.
+fn with_next(
+    alloc: Global,
+    read: Result<Values, LineFault>,
+    sort: OperandKind,
+    word: &[u8],
+) -> Result<Result<Values, LineFault>, AllocError>
+    ensures { IfOk result (λ next. next ≡ value_behind read sort word.now) }
+{
+    let values = match read {
+        Ok(values) => values,
+        Err(fault) => return Ok(Err(fault)),
+    };
+    match values.with(alloc, sort, word) {
+        Ok(values) => Ok(Ok(values)),
+        Err(ParseError::Fault(fault)) => Ok(Err(fault)),
+        Err(ParseError::Memory) => Err(AllocError),
+    }
+}
+
+/// Reads the operands of a roster line: a thread, its process and its base priority.
+#[tactic(auto, unfolding(crate::specs::Reading::Forms::member_of))]
+pub fn member(alloc: Global, operands: &[u8]) -> Result<Member, ParseError>
+    ensures { Gives result (member_of (words_of operands.now)) }
+{
+    let sorts = [
+        OperandKind::Thread,
+        OperandKind::Process,
+        OperandKind::Priority,
+    ];
+    let values = Values::read(alloc, &sorts, operands)?;
+    Ok(Member {
+        thread: values.numbers.thread,
+        process: values.numbers.process,
+        priority: values.numbers.priority,
+    })
+}

@@ -1,4 +1,0 @@
-use Rattle.qserve.proofs.hold.poll_receive.Given as goal
-
-abbrev pub decreases-polling : goal.decreases-polling
-decreases-polling g l = l.polls

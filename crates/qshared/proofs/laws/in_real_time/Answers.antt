@@ -1,5 +1,0 @@
-use Rattle.qshared.proofs.Seeing.{stands}
-use Rattle.qshared.proofs.laws.in_real_time.Goals as goal
-
-pub returns : goal.returns
-returns c = stands

@@ -1,5 +1,0 @@
-use Rattle.qshared.proofs.Seeing.{beginning}
-use Rattle.qshared.proofs.laws.is_beginning.Goals as goal
-
-pub returns : goal.returns
-returns c = beginning

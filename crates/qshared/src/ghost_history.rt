@@ -1,0 +1,78 @@
+//! A history that isn't kept in memory.
+
+ghost use Rattle.std.specs.Prelude.{◌≡◌, ◌+◌, ◌<◌, ◌^◌, [], length, false, true};
+ghost use Rattle.qrules.specs.Rules.{effect_of};
+ghost use Rattle.qshared.specs.Past.{is_down};
+
+use crate::ghost_trace::GhostTrace;
+use crate::log::Log;
+use crate::logged_copy::LoggedCopy;
+use crate::tie::Tie;
+use qbase::errno::Errno;
+use qkernel::completions::Completions;
+use qkernel::kernel::{CALL_LIMIT, Kernel};
+use qkernel::thread_ref::ThreadRef;
+use qmodel::call::Call;
+use std::alloc::Global;
+use std::marker::PhantomData;
+use std::snapshot::Snapshot;
+
+/// A history that exists only in proofs: nothing is kept, and nothing is copied. Its only limit is the
+/// kernel's own: 2^40 calls, and the last is left for a Shutdown. It has no bytes.
+#[derive(Drop)]
+pub struct GhostHistory<K: Tie> {
+    past: GhostTrace,
+    // The call that was noted and isn't an event yet, or Shutdown if there is none.
+    call: Snapshot<Call>,
+    of: PhantomData<K>,
+    ghost spare: { is_down past.trace ≡ false → length past.trace < 2 ^ 40 },
+    ghost admitted: { (effect_of call.value).shuts_down ≡ false → length past.trace + 1 < 2 ^ 40 },
+}
+
+impl<K: Tie> GhostHistory<K> {
+    /// Returns the history of a kernel that has made no call.
+    pub(crate) fn new() -> GhostHistory<K>
+        ensures { result.past.trace ≡ [] }
+    {
+        GhostHistory {
+            past: GhostTrace::none(),
+            call: Snapshot::of(&Call::Shutdown),
+            of: PhantomData,
+        }
+    }
+}
+
+impl<K: Tie> Log for GhostHistory<K> {
+    ghost use Rattle.std.specs.Prelude.{true};
+    ghost use Rattle.qshared.specs.Unkept.{admits_unkept, refuses_unkept};
+
+    ghost roster = { λ _. K.names.roster };
+
+    ghost past = { λ l. l.past.trace };
+
+    ghost ready = { λ _. true };
+
+    ghost noted = { λ l. l.call.value };
+
+    ghost refuses = { refuses_unkept };
+
+    ghost admits = { admits_unkept };
+
+    fn copies(_alloc: Global, _call: &Call) -> Option<LoggedCopy> {
+        None
+    }
+
+    fn note(&mut self, made: u64, call: &Call, _copies: Option<LoggedCopy>) -> Result<(), Errno> {
+        if !matches!(call, Call::Shutdown) && made >= CALL_LIMIT - 1 {
+            return Err(Errno::Exhausted);
+        }
+        self.call = Snapshot::of(call);
+        Ok(())
+    }
+
+    fn event(&mut self, _kernel: &Kernel, seat: &ThreadRef, completions: &Completions) {
+        let thread = seat.thread();
+        self.past = self.past.with(&thread, &self.call, completions);
+        self.call = Snapshot::of(&Call::Shutdown);
+    }
+}

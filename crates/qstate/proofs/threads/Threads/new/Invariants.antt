@@ -1,5 +1,0 @@
-use Rattle.qstate.proofs.Common.{◌≡◌, take, map, ready_thread}
-use Rattle.qstate.proofs.threads.Threads.new.Given as goal
-
-abbrev pub invariant-loop-member : goal.invariant-loop-member
-invariant-loop-member l = l.records.items ≡ map ready_thread (take l.member-index l.members)
