@@ -24,7 +24,8 @@ buffers-more (x ∷ es) i e h = grind (arith, common_steps, buffers-more es, app
 pub lay_over-more : (b xs ys : List ℕ) → lay_over (lay_over b 0 xs) (laid_count b 0 xs) ys ≡ lay_over b 0 (xs ++ ys)
 lay_over-more b xs ys =
     let both = take-append-add xs ys (laid_count b (laid_count b 0 xs) ys) in
-    let room = leb_tells (length xs) (length b) in let cut = append-nil (take (laid_count b 0 xs) xs) in
+    let room = leb_tells (length xs) (length b) in
+    let cut = append-nil (take (laid_count b 0 xs) xs) in
     grind (
       arith,
       common_steps,
@@ -80,7 +81,8 @@ pub told_in_room : (es : List Completion) (ob : List ℕ) (n : ℕ) (e : Complet
     → take (laid_count ob (start_of es ob n) (told_bytes e)) (drop (start_of es ob n) bytes)
     ≡ take (laid_count ob (start_of es ob n) (told_bytes e)) (told_bytes e)
 told_in_room es ob n e so bytes laid =
-    let before : List ℕ = buffers (take n es) in let behind : List ℕ = buffers (drop (n + 1) es) in
+    let before : List ℕ = buffers (take n es) in
+    let behind : List ℕ = buffers (drop (n + 1) es) in
     let all : buffers es ≡ before ++ (told_bytes e ++ behind) =
     ap (λ part. buffers part) (sym (take-append-drop (n + 1) es))
     ∙ flat_map-append told_bytes (take (n + 1) es) (drop (n + 1) es)

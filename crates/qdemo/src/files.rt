@@ -1,8 +1,8 @@
 //! Writes the two files of a recording.
 
-use qdemo_serve::fault::ServeFault;
-use qdemo_serve::recording::{Recording, RecordStore};
 use qdemo_commands::completion::tell_unread;
+use qdemo_serve::fault::ServeFault;
+use qdemo_serve::recording::{RecordStore, Recording};
 use std::rt::Files;
 use std::{fs, io};
 

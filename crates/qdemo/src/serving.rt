@@ -3,15 +3,15 @@
 ghost use Rattle.qdemo_serve.specs.Fit.{Fit};
 
 use crate::files::RecordFiles;
-use qscript::watched::Watched;
-use qdemo_serve::fault::ServeFault;
-use qdemo_serve::recording::{Forget, RecordStore};
-use qdemo_serve::serve::serve;
-use qdemo_serve::settings::Settings;
 use qdemo_commands::command::ServeRun;
 use qdemo_commands::completion::{end_failed, end_quietly, end_unwritten, end_with};
 use qdemo_commands::streams::Outlet;
 use qdemo_commands::summary::{json_of, with_units};
+use qdemo_serve::fault::ServeFault;
+use qdemo_serve::recording::{Forget, RecordStore};
+use qdemo_serve::serve::serve;
+use qdemo_serve::settings::Settings;
+use qscript::watched::Watched;
 use std::alloc::AllocError;
 use std::process::ExitCode;
 use std::rt::{Clock, Files};

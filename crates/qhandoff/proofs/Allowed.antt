@@ -33,7 +33,9 @@ module _ {T : Type 0} where
       → Allows (KeepsRule n) n id (Kernel d, []) (word_of t) (λ m. either (eqb m 0) 1 m)
       (OpenTells (step n (word_of t) 0 1 none) (Kernel d, []))
   opens_here n id t d h s k long at small = let back = sym (cell_of_word t) in
-      let m : ℕ = get_or s.words (word_of t) 0 in let l = line d t in let fit = kernel_sees n id t s k d at h in
+      let m : ℕ = get_or s.words (word_of t) 0 in
+      let l = line d t in
+      let fit = kernel_sees n id t s k d at h in
       exchanged m 0 1 (Ends n id (word_of t) [] s (OpenTells (step n (word_of t) 0 1 none) (Kernel d, [])) m)
       (λ e. (
         Kernel (opened_kernel_view d t),
@@ -61,20 +63,23 @@ module _ {T : Type 0} where
   cancels_here : (n id t : ℕ) (d : KernelView T) → t < n → (line d t).opened ≡ true → (line d t).putting ≡ false
       → Allows (KeepsRule n) n id (Kernel d, []) (word_of t) (λ _. 0)
       (λ _. CancelTells (step n (word_of t) 0 0 none) (Kernel d, []) 0)
-  cancels_here n id t d h a b s k long at small = let l = line d t in let fit = kernel_sees n id t s k d at h in (
-    Kernel (cancelled_kernel_view d t),
-    keeps,
-    tt,
-    kernel_changes n id t s k d at h 0
-        (record l { opened = false }) s.homes k.slots (λ u ne. refl) refl (fits_cancel _ l (k.hand t) _ fit a b),
-    ap (λ u. (Kernel (cancelled_kernel_view d u), [])) (sym (cell_of_word t)),
-  )
+  cancels_here n id t d h a b s k long at small = let l = line d t in
+      let fit = kernel_sees n id t s k d at h in (
+        Kernel (cancelled_kernel_view d t),
+        keeps,
+        tt,
+        kernel_changes n id t s k d at h 0
+            (record l { opened = false }) s.homes k.slots (λ u ne. refl) refl (fits_cancel _ l (k.hand t) _ fit a b),
+        ap (λ u. (Kernel (cancelled_kernel_view d u), [])) (sym (cell_of_word t)),
+      )
 
   begins_here : (n id t : ℕ) (d : KernelView T) → t < n → (line d t).opened ≡ true → (line d t).putting ≡ false
       → Allows (KeepsRule n) n id (Kernel d, []) (word_of t) (λ m. m)
       (BeginPutTells (step n (word_of t) 0 0 none) (Kernel d, []))
-  begins_here n id t d h a b s k long at small = let m : ℕ = get_or s.words (word_of t) 0 in let l = line d t in
-      let fit = kernel_sees n id t s k d at h in let r = fits_begin m l (k.hand t) _ fit a b in (
+  begins_here n id t d h a b s k long at small = let m : ℕ = get_or s.words (word_of t) 0 in
+      let l = line d t in
+      let fit = kernel_sees n id t s k d at h in
+      let r = fits_begin m l (k.hand t) _ fit a b in (
         Kernel (putting_kernel_view d t),
         takes t None,
         r.0,
@@ -98,7 +103,8 @@ module _ {T : Type 0} where
   ends_here : (n id t : ℕ) (d : KernelView T) (x : T) → t < n → (line d t).putting ≡ true
       → Allows (KeepsRule n) n id (Kernel d, (t, Some x) ∷ []) (word_of t) (λ _. 2)
       (λ _. EndPutTells (step n (word_of t) 2 0 none) (Kernel d, (t, Some x) ∷ []) 2)
-  ends_here n id t d x h a s k long at small = let l = line d t in let fit = kernel_sees n id t s k d at h in
+  ends_here n id t d x h a s k long at small = let l = line d t in
+      let fit = kernel_sees n id t s k d at h in
       let l' : CellView T = record l { opened = false; putting = false; put = l.put ++ x ∷ [] } in (
         Kernel (put_kernel_view d t x),
         gives,
@@ -115,9 +121,12 @@ module _ {T : Type 0} where
       → Allows (KeepsRule n) n id (Thread h, []) (word_of t) (λ m. m)
       (TakeTells (step n (word_of t) 0 0 none) (Thread h, []))
   takes_here n id t h is near idle s k long at small = let m : ℕ = get_or s.words (word_of t) 0 in
-      let l = line k.kernel_view t in let fit = thread_sees n id t s k h at is near in
+      let l = line k.kernel_view t in
+      let fit = thread_sees n id t s k h at is near in
       dite (ℕ_discrete m 2)
-      (λ e. let r = fits_take m l h _ fit e idle in let x : T = r.0 in let h' : ThreadView T =
+      (λ e. let r = fits_take m l h _ fit e idle in
+      let x : T = r.0 in
+      let h' : ThreadView T =
       record h { taking = Some x } in (
         Thread h',
         takes t (Some x),
@@ -141,7 +150,8 @@ module _ {T : Type 0} where
       → Allows (KeepsRule n) n id (Thread h, (t, None) ∷ []) (word_of t) (λ _. 0)
       (λ _. GiveBackTells (step n (word_of t) 0 0 none) (Thread h, (t, None) ∷ []) 0)
   gives_here n id t h x is near a s k long at small = let l = line k.kernel_view t in
-      let fit = thread_sees n id t s k h at is near in let h' : ThreadView T =
+      let fit = thread_sees n id t s k h at is near in
+      let h' : ThreadView T =
       record h { taken = h.taken ++ x ∷ []; taking = None } in (
         Thread h',
         gives,

@@ -92,8 +92,10 @@ module _ {T : Type 0} where
         views = set s.views 0 (Kernel (with_line k.kernel_view t l));
       }
   kernel_step n t s k h w l homes long others same fits =
-      let d : KernelView T = with_line k.kernel_view t l in let near : t < length k.kernel_view.lines =
-      omega (arith, k.lines) in let stays = taken_stays k.kernel_view t l near same in
+      let d : KernelView T = with_line k.kernel_view t l in
+      let near : t < length k.kernel_view.lines =
+      omega (arith, k.lines) in
+      let stays = taken_stays k.kernel_view t l near same in
       record {
         kernel_view = d;
         hand = k.hand;
@@ -158,8 +160,10 @@ module _ {T : Type 0} where
       → Fits w (line k.kernel_view t) h' (get_elem? homes t)
       → KeepsRule n record { words = set s.words (word_of t) w; homes = homes; views = set s.views id (Thread h') }
   thread_changes n id t s k h at is near w h' homes long others is' fits =
-      let q = k.each_seat id (Thread h) at in let seat : id ≡ suc t = q.0 ∙ ap suc is in
-      let within = there s.views id _ at in let open_ : (line k.kernel_view t).taken ≡ None =
+      let q = k.each_seat id (Thread h) at in
+      let seat : id ≡ suc t = q.0 ∙ ap suc is in
+      let within = there s.views id _ at in
+      let open_ : (line k.kernel_view t).taken ≡ None =
       ap (λ u. (line k.kernel_view u).taken) (sym is) ∙ q.2 in
       record {
         kernel_view = k.kernel_view;
@@ -225,7 +229,8 @@ module _ {T : Type 0} where
   fits_idle (suc w) l h o f e = absurd (omega arith)
 
   longer : (xs ys : List T) (x : T) → xs ≡ ys ++ x ∷ [] → ¬ (xs ≡ [])
-  longer xs ys x e z = let p : length xs ≡ length (ys ++ x ∷ []) = ap length e in let q : length xs ≡ 0 =
+  longer xs ys x e z = let p : length xs ≡ length (ys ++ x ∷ []) = ap length e in
+      let q : length xs ≡ 0 =
       ap length z in omega (arith, length-append ys (x ∷ []))
 
   pub fits_busy : (w : ℕ) (l : CellView T) (h : ThreadView T) (o : maybe.Option (maybe.Option (Option T)))

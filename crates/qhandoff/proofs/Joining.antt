@@ -18,8 +18,10 @@ module _ {T : Type 0} where
   pub joining_one : (old : KernelView T) (all left : List (ThreadSeat T)) (s : ThreadSeat T) (now : KernelView T)
       → Joining old all (left ++ s ∷ []) now → s.thread ≡ length left → length all ≤ length old.lines
       → Joining old all left (joined_at now s.thread (taken s))
-  joining_one old all left s now j is room = let t : ℕ = s.thread in let l : CellView T =
-      record (line now t) { taken = Some (taken s) } in let more = length-append left (s ∷ []) in
+  joining_one old all left s now j is room = let t : ℕ = s.thread in
+      let l : CellView T =
+      record (line now t) { taken = Some (taken s) } in
+      let more = length-append left (s ∷ []) in
       let near : t < length now.lines = omega (arith, j.few, j.long) in
       let here = j.same (length left) s (at_last left s (length left) refl) in record {
         long = length-set now.lines t l ∙ j.long;

@@ -68,7 +68,8 @@ module _ {T : Type 0} where
   rises_more i (Some v) room r old = λ j k x y ex ey h. ⊎_elim
       (λ wasy. ⊎_elim (λ wasx. r j k x y wasx wasy h) (λ nowx. let far = there room k y wasy in
       absurd (omega (arith, nowx.0))) (at_end room (i, v) x j ex))
-      (λ nowy. ⊎_elim (λ wasx. let low = old j x wasx in let same : i ≡ y.0 = ap (λ z. z.0) nowy.1 in
+      (λ nowy. ⊎_elim (λ wasx. let low = old j x wasx in
+      let same : i ≡ y.0 = ap (λ z. z.0) nowy.1 in
       omega (arith, low, same)) (λ nowx. absurd (omega (arith, nowx.0, nowy.0))) (at_end room (i, v) x j ex))
       (at_end room (i, v) y k ey)
 

@@ -17,7 +17,9 @@ module _ {T : Type 0} where
   pub puts_whole : (d : KernelView T) (t : ℕ) (x : T) → t < length d.lines
       → put_kernel_view (putting_kernel_view d t) t x ≡ put_kernel_view d t x
   puts_whole d t x h =
-      let l = line d t in let p : CellView T = record l { putting = true } in let q : CellView T =
+      let l = line d t in
+      let p : CellView T = record l { putting = true } in
+      let q : CellView T =
       record l { opened = false; putting = false; put = l.put ++ x ∷ [] } in
       ap (λ (z : CellView T). with_line (putting_kernel_view d t) t
       (record z { opened = false; putting = false; put = z.put ++ x ∷ [] })) (get_or-set_same d.lines t p idle_line h)
@@ -25,12 +27,13 @@ module _ {T : Type 0} where
 
   pub kernel_rests : (s : Seat (Option T) (View T)) (d : KernelView T) → s.me ≡ (Kernel d, [])
       → length d.lines ≡ s.table_id.slots → ((u : ℕ) → (line d u).putting ≡ false) → IsKernel s
-  kernel_rests s d e long none_put = let same : kernel_view_in s.me.0 ≡ d = ap (λ (m : Sat T). kernel_view_in m.0) e in (
-    e ∙ ap (λ z. (Kernel z, [])) (sym same),
-    ap (λ z. length z.lines) same
-        ∙ long,
-    λ u. ap (λ z. (line z u).putting) same ∙ none_put u,
-  )
+  kernel_rests s d e long none_put =
+      let same : kernel_view_in s.me.0 ≡ d = ap (λ (m : Sat T). kernel_view_in m.0) e in (
+        e ∙ ap (λ z. (Kernel z, [])) (sym same),
+        ap (λ z. length z.lines) same
+            ∙ long,
+        λ u. ap (λ z. (line z u).putting) same ∙ none_put u,
+      )
 
   pub thread_rests : (s : Seat (Option T) (View T)) (t : ℕ) (h : ThreadView T) → s.me ≡ (Thread h, [])
       → t < s.table_id.slots → h.thread ≡ t → h.taking ≡ None → IsThread s t
@@ -40,7 +43,8 @@ module _ {T : Type 0} where
   -- after a put, nothing is being put for any thread
   pub none_putting : (d : KernelView T) (t : ℕ) (x : T) → t < length d.lines → ((u : ℕ) → (line d u).putting ≡ false)
       → (u : ℕ) → (line (put_kernel_view d t x) u).putting ≡ false
-  none_putting d t x h old u = let l = line d t in let q : CellView T =
+  none_putting d t x h old u = let l = line d t in
+      let q : CellView T =
       record l { opened = false; putting = false; put = l.put ++ x ∷ [] } in
       dite (ℕ_discrete u t) (λ e. ap (λ v. (line (put_kernel_view d t x) v).putting) e
       ∙ ap (λ z. z.putting) (get_or-set_same d.lines t q idle_line h))

@@ -31,10 +31,15 @@ module _ {T : Type 0} where
         homes = s.homes;
         views = set (set s.views 0 (Kernel (joined_kernel_view k.kernel_view h))) other Joined;
       }
-  joins_step n other s k h near idle at = let t : ℕ = h.thread in let l = line k.kernel_view t in let l' : CellView T =
-      record l { taken = Some h.taken } in let d' : KernelView T = joined_kernel_view k.kernel_view h in
-      let q = k.each_seat other (Thread h) at in let within = there s.views other _ at in
-      let vs = set s.views 0 (Kernel d') in let long : t < length k.kernel_view.lines = omega (arith, k.lines) in
+  joins_step n other s k h near idle at = let t : ℕ = h.thread in
+      let l = line k.kernel_view t in
+      let l' : CellView T =
+      record l { taken = Some h.taken } in
+      let d' : KernelView T = joined_kernel_view k.kernel_view h in
+      let q = k.each_seat other (Thread h) at in
+      let within = there s.views other _ at in
+      let vs = set s.views 0 (Kernel d') in
+      let long : t < length k.kernel_view.lines = omega (arith, k.lines) in
       record {
         kernel_view = d';
         hand = k.hand;
@@ -110,7 +115,8 @@ module _ {T : Type 0} where
       → (t : ℕ) (ts : List T) → t < n → (line d t).putting ≡ false → (line d t).taken ≡ Some ts → (o : Option T)
       × (get_elem? xs t ≡ some o) × (ts ++ one o ≡ (line d t).put)
   closed_cell n id m d ws xs is fin t ts near quiet was =
-      let s : St T = fin.0 in let k : KeepsRule n s = fin.1.0 in
+      let s : St T = fin.0 in
+      let k : KeepsRule n s = fin.1.0 in
       let q = k.each_seat id (Kernel d) (fin.1.1 ∙ ap (λ (z : Sat T). some z.0) is) in
       let cell : CellOk (get_or s.words (word_of t) 0) (line d t) (k.hand t) (get_elem? s.homes t) =
       subst (λ z. CellOk (get_or s.words (word_of t) 0) (line z t) (k.hand t) (get_elem? s.homes t)) (sym q.1)

@@ -73,7 +73,8 @@ module _ {T : Type 0} where
 
   splits_step : (n : ℕ) (s : St T) (k : KeepsRule n s)
       → KeepsRule n record { words = s.words; homes = s.homes; views = wider s.views k.kernel_view }
-  splits_step n s k = let d = k.kernel_view in let d' : KernelView T = record d { seats = suc d.seats } in
+  splits_step n s k = let d = k.kernel_view in
+      let d' : KernelView T = record d { seats = suc d.seats } in
       let vs = set s.views 0 (Kernel d') in
       let long : length vs ≡ suc d.seats = length-set s.views 0 (Kernel d') ∙ k.seats in
       let new = k.unmade d.seats (omega arith) in record {

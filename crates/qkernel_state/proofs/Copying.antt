@@ -18,7 +18,8 @@ module _ {R : Type 0} where
       elim (slice_get entries i) as (λ o. option_map (λ e. e.0) o ≡ Some id → option_map (λ e. e.1) o ≡ Some c
       → o ≡ Some (id, c)) [
         | None ↦ λ p q. absurd (none-some id p)
-        | Some e ↦ λ p q. let one : e.0 ≡ id = same_Some e.0 id p in let two : e.1 ≡ c =
+        | Some e ↦ λ p q. let one : e.0 ≡ id = same_Some e.0 id p in
+            let two : e.1 ≡ c =
             same_Some e.1 c q in λ j. Some (one j, two j)
       ] first second
 

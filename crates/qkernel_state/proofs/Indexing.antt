@@ -189,14 +189,16 @@ module _ (threads : List Thread) (k : ℕ) (x : Thread) (call : OpenCall) (index
               | true ↦ λ second also. eqb-true j k first ∙ sym (eqb-true m k second)
               | false ↦ λ second also. let same : (number_of call) ≡ n = same_Some _ n is in
                   let old : n ≤ index.latest =
-                  i.latest (rose r).0 m n also in let more : index.latest < (number_of call) = (rose r).1 in
+                  i.latest (rose r).0 m n also in
+                  let more : index.latest < (number_of call) = (rose r).1 in
                   absurd (omega arith)
             ] refl (at_place call_number m n b)
         | false ↦ λ first is. elim (eqb m k)
             as (λ q. eqb m k ≡ q → call_number (cond q (Some call) (open_at threads m)) ≡ Some n → j ≡ m) [
               | true ↦ λ second also. let same : (number_of call) ≡ n = same_Some _ n also in
                   let old : n ≤ index.latest =
-                  i.latest (rose r).0 j n is in let more : index.latest < (number_of call) = (rose r).1 in
+                  i.latest (rose r).0 j n is in
+                  let more : index.latest < (number_of call) = (rose r).1 in
                   absurd (omega arith)
               | false ↦ λ second also. i.apart (rose r).0 j m n is also
             ] refl (at_place call_number m n b)

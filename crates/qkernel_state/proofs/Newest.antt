@@ -34,7 +34,8 @@ later_joins (Some a) u (Some m) (Some b) =
       | true ↦ λ first. elim (nat_lt m b.0)
           as (λ q. nat_lt m b.0 ≡ q
           → cond q (Some b) (Some (m, u)) ≡ later_of (Some a) (cond q (Some b) (Some (m, u)))) [
-            | true ↦ λ second. let x : a.0 < m = ltb-true a.0 m first in let y : m < b.0 = ltb-true m b.0 second in
+            | true ↦ λ second. let x : a.0 < m = ltb-true a.0 m first in
+                let y : m < b.0 = ltb-true m b.0 second in
                 rw (less_is a.0 b.0 (omega arith)) refl
             | false ↦ λ second. rw first refl
           ] refl
@@ -42,7 +43,8 @@ later_joins (Some a) u (Some m) (Some b) =
           as (λ q. nat_lt m b.0 ≡ q
           → cond (nat_lt a.0 b.0) (Some b) (Some a) ≡ later_of (Some a) (cond q (Some b) (Some (m, u)))) [
             | true ↦ λ second. refl
-            | false ↦ λ second. let x : m ≤ a.0 = ltb-false a.0 m first in let y : b.0 ≤ m = ltb-false m b.0 second in
+            | false ↦ λ second. let x : m ≤ a.0 = ltb-false a.0 m first in
+                let y : b.0 ≤ m = ltb-false m b.0 second in
                 rw (first, more_is a.0 b.0 (omega arith)) refl
           ] refl
     ] refl where
@@ -153,7 +155,8 @@ newest_is h item (t ∷ threads) zero n d l waits others =
     (elim (newest_of h item threads)
     as (λ r. newest_of h item threads ≡ r → newer_of t.member.thread (Some n) r ≡ Some (n, t.member.thread)) [
       | None ↦ λ empty. refl
-      | Some best ↦ λ found. let r = found_waits h item threads best found in let less : best.0 < n =
+      | Some best ↦ λ found. let r = found_waits h item threads best found in
+          let less : best.0 < n =
           others (suc r.0) best.0 r.1 (λ e. absurd (omega arith)) in
           elim (nat_lt n best.0) as
           (λ p. nat_lt n best.0 ≡ p → cond p (Some best) (Some (n, t.member.thread)) ≡ Some (n, t.member.thread)) [
@@ -236,7 +239,8 @@ pub search_over : (h : ℕ) (item : Item) (threads : List Thread) (receivers lef
     (best : Option (ℕ × ThreadRef)) (turn : ℕ) → Searches h item threads receivers left best turn → 256 ≤ turn
     → number_and_thread best ≡ newest_of h item threads
 search_over h item threads receivers left best turn s over =
-    (let fits : s.bound + turn ≤ 256 = s.fits in let end : s.bound ≡ 0 = omega arith in
+    (let fits : s.bound + turn ≤ 256 = s.fits in
+    let end : s.bound ≡ 0 = omega arith in
     s.newest ∙ ap (λ k. newest_of h item (drop k threads)) end)
 
 module _ (h : ℕ) (item : Item) (threads : List Thread) (receivers left : ByteSet) (best : Option (ℕ × ThreadRef))

@@ -21,7 +21,8 @@ found_from u (t ∷ threads) i k e =
     as (λ b. eqb t.member.thread u ≡ b → cond b (Some i) (position_from (λ t. eqb t.member.thread u) (i + 1) threads)
     ≡ Some k → (j : ℕ) × (k ≡ i + j) × IsFirstAt (t ∷ threads) u j) [
       | true ↦ λ at e. let same : i ≡ k = same_Some i k e in (0, omega arith, eqb-true t.member.thread u at)
-      | false ↦ λ other e. let r = found_from u threads (i + 1) k e in let same : k ≡ i + 1 + r.0 = r.1 in
+      | false ↦ λ other e. let r = found_from u threads (i + 1) k e in
+          let same : k ≡ i + 1 + r.0 = r.1 in
           (suc r.0, omega arith, (other, r.2))
     ] refl e
 

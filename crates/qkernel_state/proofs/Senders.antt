@@ -64,7 +64,8 @@ found_from i (t ∷ threads) n k e =
     as (λ b. is_send i t.open_call ≡ b → cond b (Some n) (position_from (λ t. is_send i t.open_call) (n + 1) threads)
     ≡ Some k → (j : ℕ) × (k ≡ n + j) × IsSenderAt (t ∷ threads) i j) [
       | true ↦ λ at e. let same : n ≡ k = same_Some n k e in (0, omega arith, at)
-      | false ↦ λ other e. let r = found_from i threads (n + 1) k e in let same : k ≡ n + 1 + r.0 = r.1 in
+      | false ↦ λ other e. let r = found_from i threads (n + 1) k e in
+          let same : k ≡ n + 1 + r.0 = r.1 in
           (suc r.0, omega arith, (other, r.2))
     ] refl e
 

@@ -134,7 +134,8 @@ fn cancel_thread(
         cancel.now.errno thread.old.member.thread thread.old.open_call }
     ensures thread { thread.new ≡ thread_unless_cancelled
         (is_cancelled_by cancel.now.set thread.old.member.thread) thread.old }
-    ensures channels { Lose (is_taken_from (is_cancelled_by cancel.now.set thread.old.member.thread) thread.old.open_call) channels.old channels.new }
+    ensures channels { Lose (is_taken_from (is_cancelled_by cancel.now.set thread.old.member.thread)
+        thread.old.open_call) channels.old channels.new }
 {
     let call = take_cancelled(thread, &cancel.set)?;
     take_message(channels, &call, thread.key);
@@ -158,7 +159,8 @@ fn end_thread(
     ensures own { own.new ≡ (if thread.old.member.thread == caller then None else own.old) }
     ensures thread { thread.new ≡ thread_unless_cancelled
         (is_cancelled_by cancel.now.set thread.old.member.thread) thread.old }
-    ensures channels { Lose (is_taken_from (is_cancelled_by cancel.now.set thread.old.member.thread) thread.old.open_call) channels.old channels.new }
+    ensures channels { Lose (is_taken_from (is_cancelled_by cancel.now.set thread.old.member.thread)
+        thread.old.open_call) channels.old channels.new }
 {
     if thread.member.thread == caller {
         own.take()

@@ -1,9 +1,9 @@
 //! A script with the output that it has to print.
 
-use qscript_explain::explain;
 use qscript::fault::ScriptFault;
 use qscript::script::script;
 use qscript::watched::Watched;
+use qscript_explain::explain;
 use std::alloc::{AllocError, Global};
 use std::{io, str};
 

@@ -52,7 +52,8 @@ pub few_noted : (roster : List Member) (limit : ℕ) (threads rooms : List ℕ) 
     (ready : Bool) → IsKept roster limit threads rooms log c room ready
     → is_down (followed_by [] log.events) ≡ false → length (followed_by [] log.events) < 2 ^ 40
 few_noted roster limit threads rooms log c room ready h up = let len = past_length log.events in
-    let spare = h.spare up in let bounded = h.bounded in omega (arith, len, spare.0, bounded)
+    let spare = h.spare up in
+    let bounded = h.bounded in omega (arith, len, spare.0, bounded)
 
 -- ---- a Shutdown that isn't refused
 
@@ -162,7 +163,8 @@ module _ (roster : List Member) (limit : ℕ) (threads rooms : List ℕ) (log : 
 
     long : i < length rooms
     long = let below : i < length (threads_of roster) = place_below (threads_of roster) t i at in
-        let sized = f.kept.sized in let same : length threads ≡ length (threads_of roster) =
+        let sized = f.kept.sized in
+        let same : length threads ≡ length (threads_of roster) =
         ap length f.kept.threads_are in omega (arith, below, sized, same)
 
     room_for : (u j : ℕ) → place (threads_of roster) u ≡ Some j

@@ -21,7 +21,8 @@ found_from t (u ∷ ts) i k e =
     elim (eqb u t) as (λ b. eqb u t ≡ b → cond b (Some i) (position_from (λ v. eqb v t) (i + 1) ts) ≡ Some k
     → (j : ℕ) × (k ≡ i + j) × IsAt (u ∷ ts) t j) [
       | true ↦ λ at e. let same : i ≡ k = same_Some i k e in (0, omega arith, eqb-true u t at)
-      | false ↦ λ other e. let r = found_from t ts (i + 1) k e in let same : k ≡ i + 1 + r.0 = r.1 in
+      | false ↦ λ other e. let r = found_from t ts (i + 1) k e in
+          let same : k ≡ i + 1 + r.0 = r.1 in
           (suc r.0, omega arith, (other, r.2))
     ] refl e
 
@@ -83,7 +84,8 @@ above u (v ∷ ts) (suc k) d h l = above u ts k d h.1 (omega arith)
 rises_at : (ts : List ℕ) (k d : ℕ) → Rises ts → k < length ts → IsAt ts (get_or ts k d) k
 rises_at [] k d r l = absurd (omega arith)
 rises_at (u ∷ ts) zero d r l = refl
-rises_at (u ∷ ts) (suc k) d r l = let near : k < length ts = omega arith in let more : u < get_or ts k d =
+rises_at (u ∷ ts) (suc k) d r l = let near : k < length ts = omega arith in
+    let more : u < get_or ts k d =
     above u ts k d r.0 near in (ne_eqb u (get_or ts k d) (λ s. omega arith), rises_at ts k d r.1 near)
 
 pub place_at : (ts : List ℕ) (k d : ℕ) → Rises ts → k < length ts → place ts (get_or ts k d) ≡ Some k

@@ -91,7 +91,8 @@ impl<K: Tie, L: Log> LockState<K, L> {
     ) -> Called
         requires cells { cells_id cells.now ≡ K.names.cells }
         requires part { 0 < share.old.parts }
-        requires seat { (place (threads_of K.names.roster) scratch.old.seat.thread ≡ Some scratch.old.seat.index) × (scratch.old.seat.index < K.names.cells.slots) }
+        requires seat { (place (threads_of K.names.roster) scratch.old.seat.thread
+            ≡ Some scratch.old.seat.index) × (scratch.old.seat.index < K.names.cells.slots) }
         requires none { scratch.old.completions.value.items ≡ [] }
         requires pending { scratch.old.pending ≡ true
             → WaitedBefore seen.old.trace asked.old.calls scratch.old.seat.thread }

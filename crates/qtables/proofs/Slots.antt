@@ -20,7 +20,8 @@ only_key [] id k up there = tt
 only_key (p ∷ ix) id k up there =
     elim (eqb p.0 id) as (λ b. eqb p.0 id ≡ b → cond b (Some p.1) (entry_at ix id) ≡ Some k → (p.0 ≡ id → p.1 ≡ k)
     × AllByRecursion (λ p. p.0 ≡ id → p.1 ≡ k) ix) [
-      | true ↦ λ e t. let key : p.1 ≡ k = cc in let same : p.0 ≡ id = eqb-true p.0 id e in
+      | true ↦ λ e t. let key : p.1 ≡ k = cc in
+          let same : p.0 ≡ id = eqb-true p.0 id e in
           (λ _. key, no_more p.0 id k ix same up.0)
       | false ↦ λ e t. (λ same. absurd (eqb-false p.0 id e same), only_key ix id k up.1 t)
     ] refl there
@@ -113,7 +114,8 @@ module _ {R : Type 0} where
       rw all.0.1 (
       elim (eqb p.0 id) as (λ b. eqb p.0 id ≡ b → cond b (Some p.1) (entry_at ix id) ≡ Some k
       → (r : R) × (get s k ≡ Some (id, r)) × (cond b (Some all.0.0) (entry_at (entries_at s ix) id) ≡ Some r)) [
-        | true ↦ λ e t. let number : p.0 ≡ id = eqb-true p.0 id e in let key : p.1 ≡ k = cc in
+        | true ↦ λ e t. let number : p.0 ≡ id = eqb-true p.0 id e in
+            let key : p.1 ≡ k = cc in
             (all.0.0, rw (number, key) at all.0.1, refl)
         | false ↦ λ e t. entry_at_key s ix id k all.1 t
       ] refl there

@@ -41,7 +41,8 @@ pub fn push_mark(out: &mut String, mark: Mark) -> Result<(), AllocError>
 
 /// Adds `fail ERROR`.
 fn push_failed(out: &mut String, errno: Errno) -> Result<(), AllocError>
-    ensures { OnOk result (string_bytes out.new ≡ string_bytes out.old ++ words_with_spaces (codes "fail" ∷ word_of errno ∷ [])) }
+    ensures { OnOk result (string_bytes out.new
+        ≡ string_bytes out.old ++ words_with_spaces (codes "fail" ∷ word_of errno ∷ [])) }
 {
     let word = word(errno);
     write!(out, " fail {word}")

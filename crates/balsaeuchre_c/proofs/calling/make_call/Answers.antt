@@ -10,8 +10,11 @@ use Rattle.balsaeuchre_c.proofs.calling.make_call.Goals as goal
 
 pub returns-clause-event : goal.returns-clause-event
 returns-clause-event c =
-    let made = c.in_ok-make.ensures.made in let s = c.make.new.self in let X = s.completions.items in
-    let ob = c.args.bytes.now in let t = c.args.request.now.thread in
+    let made = c.in_ok-make.ensures.made in
+    let s = c.make.new.self in
+    let X = s.completions.items in
+    let ob = c.args.bytes.now in
+    let t = c.args.request.now.thread in
     let told : IsTold s.kernel X c.args.rows.now c.tell.new.rows ob c.tell.new.bytes c.tell.result =
     rw (← c.as_slice.ensures.value) c.tell.ensures in
     -- the rows have the data that `Info` would return for the messages that the event received, and restore

@@ -13,5 +13,6 @@ loop-place-preserved c =
     (rw (c.lay-written.ensures.count, c.told_front-told.ensures) at c.of.ensures))
 
 pub returns : goal.returns
-returns c = let n = c.loop-place.place in let whole : take n c.args.completions.now ≡ c.args.completions.now =
+returns c = let n = c.loop-place.place in
+    let whole : take n c.args.completions.now ≡ c.args.completions.now =
     grind (arith, common_steps) in grind arith

@@ -5,8 +5,11 @@ use Rattle.qhandoff.proofs.Left.{more_before, more_after, few_tagged, rises_more
 use Rattle.qhandoff.proofs.closing.collect.Goals as goal
 
 pub loop-i-preserved : goal.loop-i-preserved
-loop-i-preserved g c = let i : ℕ = c.loop-i.i in let v = c.loop-i.invariant in let o = c.take.result in
-    let room = c.loop-i.room.items in let e = c.keep.ensures.0 in
+loop-i-preserved g c = let i : ℕ = c.loop-i.i in
+    let v = c.loop-i.invariant in
+    let o = c.take.result in
+    let room = c.loop-i.room.items in
+    let e = c.keep.ensures.0 in
     let here : get_elem? (slots_items c.args.closed.slots) i ≡ some o = ap (λ xs. get_elem? xs i) (sym v.0)
     ∙ c.take.ensures.value in (
       search rules,
@@ -23,7 +26,8 @@ loop-i-preserved g c = let i : ℕ = c.loop-i.i in let v = c.loop-i.invariant in
     )
 
 pub returns-clause-all : goal.returns-clause-all
-returns-clause-all g c = λ t o at. let v = c.loop-i.invariant in let far = there _ t _ at in
+returns-clause-all g c = λ t o at. let v = c.loop-i.invariant in
+    let far = there _ t _ at in
     let n = (slots_counts c.args.closed.slots).0 in v.6 t o (omega (arith, far, n, v.1, c.loop-i-test.false)) at
 
 pub loop-i-init : goal.loop-i-init
@@ -42,4 +46,5 @@ loop-i-init g c = let e = c.requires.room.0 in (
 )
 
 pub returns-clause-within : goal.returns-clause-within
-returns-clause-within g c = λ k x at. let v = c.loop-i.invariant in let h = v.9 k x at in omega (arith, h, v.1, v.10)
+returns-clause-within g c = λ k x at. let v = c.loop-i.invariant in
+    let h = v.9 k x at in omega (arith, h, v.1, v.10)

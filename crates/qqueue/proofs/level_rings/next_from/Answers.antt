@@ -29,7 +29,8 @@ pub index-requires-in-loop-key : goal.index-requires-in-loop-key
 index-requires-in-loop-key c = there_at c.args.nodes.now c.args.item.now c.loop-key.key c.loop-key.invariant
 
 -- the walk goes to a greater number
-ahead : (c : goal.After-index-in-loop-key-2) → let s = c.args.nodes.now in let item = c.args.item.now in
+ahead : (c : goal.After-index-in-loop-key-2) → let s = c.args.nodes.now in
+    let item = c.args.item.now in
     (b : IsAt s item c.index-in-loop-key-2.result.now.after) × (c.loop-key.invariant.here.number < b.here.number)
 ahead c =
     let s = c.args.nodes.now in

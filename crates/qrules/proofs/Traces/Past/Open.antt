@@ -126,7 +126,8 @@ open_parts roster past u o is = grind (arith, kept_number, open_is)
 
 pub open_below : (roster : List Member) (past : Trace) (u : ℕ) (o : OpenCall) → open_call roster past u ≡ Some o
     → number_of o ≤ length past
-open_below roster past u o is = let k = open_parts roster past u o is in let below : number_of k.block ≤ length past =
+open_below roster past u o is = let k = open_parts roster past u o is in
+    let below : number_of k.block ≤ length past =
     block_below roster past u k.block k.is in omega (arith, k.number)
 
 -- a newest blocking call that hasn't completed is open

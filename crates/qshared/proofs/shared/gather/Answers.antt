@@ -8,7 +8,8 @@ pub loop-port-preserved : goal.loop-port-preserved
 loop-port-preserved g c =
     let v = c.loop-port.invariant in
     let p = c.in-Some.port in
-    let s = c.push_reserved.ensures.items in let m = c.push_reserved-in-loop-port.ensures.items in
+    let s = c.push_reserved.ensures.items in
+    let m = c.push_reserved-in-loop-port.ensures.items in
     let a = c.push_reserved-in-loop-port-2.ensures.items in
     let long : length (c.loop-port.yielded ++ p ∷ []) ≡ length c.loop-port.yielded + 1 =
     length-append c.loop-port.yielded (p ∷ []) in

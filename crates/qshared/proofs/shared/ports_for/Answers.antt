@@ -120,7 +120,9 @@ new-port-requires-clause-asked g c =
 
 pub loop-seat-preserved : goal.loop-seat-preserved
 loop-seat-preserved g c =
-    let v = c.loop-seat.invariant in let e = c.push_reserved.ensures.items in let p = c.new-port.result in
+    let v = c.loop-seat.invariant in
+    let e = c.push_reserved.ensures.items in
+    let p = c.new-port.result in
     let own = c.in-Some-pop.own in
     let scratch : reverse c.loop-seat.asked.items ≡ own ∷ reverse c.pop.new.self.items =
     popped c.loop-seat.asked.items c.pop.new.self.items own c.in-Some-pop.ensures.items in
@@ -160,7 +162,8 @@ returns-clause-ports g c =
     c.into_iter-seat-iterator.ensures.into_iter_gives.0
     (c.into_iter-seat-iterator.ensures.into_iter_gives.1 ∙ c.args.seats.ok.0)) c.loop-seat.yielded
     c.loop-seat.seat-iterator c.loop-seat.yielded_by c.next.result c.next.new.self c.in-None.is c.next.ensures.steps in
-    let v = c.loop-seat.invariant in let seats = c.requires.seats in (
+    let v = c.loop-seat.invariant in
+    let seats = c.requires.seats in (
       v.4 ∙ t.1 ∙ seats.0 ∙ c.requires.sized,
       λ k p at. (ports_fresh (λ q. q.seat) g.K.Tie.names.cells c.args.seats.items c.loop-seat.ports.items
           (v.0 ∙ sym (map_same c.loop-seat.yielded) ∙ t.0) seats.1 seats.2 k p at).0,
@@ -174,7 +177,8 @@ returns-clause-new g c =
     c.into_iter-seat-iterator.ensures.into_iter_gives.0
     (c.into_iter-seat-iterator.ensures.into_iter_gives.1 ∙ c.args.seats.ok.0)) c.loop-seat.yielded
     c.loop-seat.seat-iterator c.loop-seat.yielded_by c.next.result c.next.new.self c.in-None.is c.next.ensures.steps in
-    let v = c.loop-seat.invariant in let seats = c.requires.seats in
+    let v = c.loop-seat.invariant in
+    let seats = c.requires.seats in
     λ k p at. (
       (v.1 k p at).0,
       (v.1 k p at).1,

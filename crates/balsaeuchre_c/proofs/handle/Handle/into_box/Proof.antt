@@ -1,6 +1,6 @@
 -- `into_box` passes the memory that the handle owns to `from_raw`.
-use Rattle.balsaeuchre_c.proofs.Common.{ !, B, Contract, D, Fun, Goes-dropped, List, Logic, Memory, P, R, Routine, SProp}
-use Rattle.balsaeuchre_c.proofs.Common.{Stays, T, Tables, Triple, Ura, Val, WT, WpFn, WpFn-mono, [], alloc_all}
+use Rattle.balsaeuchre_c.proofs.Common.{ !, B, Contract, D, Fun, Goes-dropped, List, Logic, Memory, P, R, Routine}
+use Rattle.balsaeuchre_c.proofs.Common.{SProp, Stays, T, Tables, Triple, Ura, Val, WT, WpFn, WpFn-mono, [], alloc_all}
 use Rattle.balsaeuchre_c.proofs.Common.{and_then, ap, args, assign, at_ret, await, block_ptr, blocks, box_in, box_out}
 use Rattle.balsaeuchre_c.proofs.Common.{box_owns, box_ty, box_typed, by, calls_at_last, copy, done, emp, ends_at, ent}
 use Rattle.balsaeuchre_c.proofs.Common.{enter, entered, env, exec, fact, fact_i, feq_i, first, fjoin, fld, flft, fm_of}
@@ -41,7 +41,8 @@ module _ {M : Type 1} {𝓤 : Ura M} (𝓛 : Logic 𝓤) (at_mem : Memory → SP
       → ent 𝓤 ((walk_of 𝓛 F.ended stayed (F.clauses 𝓛 at_mem run)).pre z)
       (WpFn 𝓤 H 𝓣.C 𝓣.Λ code.function (z.0.4.0 ++ []) ((walk_of 𝓛 F.ended stayed (F.clauses 𝓛 at_mem run)).post z))
   walk kn z =
-      let a = z.0.3.0.alloc in let x = z.0.3.0.session in
+      let a = z.0.3.0.alloc in
+      let x = z.0.3.0.session in
       let Post = (walk_of 𝓛 F.ended stayed (F.clauses 𝓛 at_mem run)).post z in
       let v : D E = record { ptr = z.0.3.0.ptr; alloc = a; value = x } in
       qed 𝓛 ((‵ ftrue ⊛ ‵ (fsep ((B E).own_val v z.0.4.0) ftrue)) ∷ raw (emp 𝓤) ∷ []) ∵ split ! $ drop ! $ fsplit ! $

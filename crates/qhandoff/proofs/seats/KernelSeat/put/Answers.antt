@@ -14,7 +14,8 @@ load-requires g c = (
 )
 
 pub store-requires : goal.store-requires
-store-requires g c = let k = c.args.self.now.knows in let d = kernel_view_in c.args.self.now.seat.me.0 in
+store-requires g c = let k = c.args.self.now.knows in
+    let d = kernel_view_in c.args.self.now.seat.me.0 in
     let near : c.args.thread < length d.lines =
     subst (λ (z : ℕ). c.args.thread < z) (sym k.1)
     (subst (λ z. c.args.thread < z.slots) (sym c.requires.cells) c.requires.thread) in (
@@ -27,7 +28,8 @@ store-requires g c = let k = c.args.self.now.knows in let d = kernel_view_in c.a
     )
 
 pub invariant_of-self : goal.invariant_of-self
-invariant_of-self g c = let k = c.args.self.now.knows in let d = kernel_view_in c.args.self.now.seat.me.0 in
+invariant_of-self g c = let k = c.args.self.now.knows in
+    let d = kernel_view_in c.args.self.now.seat.me.0 in
     let near : c.args.thread < length d.lines =
     subst (λ (z : ℕ). c.args.thread < z) (sym k.1)
     (subst (λ z. c.args.thread < z.slots) (sym c.requires.cells) c.requires.thread) in
@@ -41,7 +43,8 @@ invariant_of-self g c = let k = c.args.self.now.knows in let d = kernel_view_in 
     }
 
 pub returns-clause-kernel_view : goal.returns-clause-kernel_view
-returns-clause-kernel_view g c = let k = c.args.self.now.knows in let d = kernel_view_in c.args.self.now.seat.me.0 in
+returns-clause-kernel_view g c = let k = c.args.self.now.knows in
+    let d = kernel_view_in c.args.self.now.seat.me.0 in
     let near : c.args.thread < length d.lines =
     subst (λ (z : ℕ). c.args.thread < z) (sym k.1)
     (subst (λ z. c.args.thread < z.slots) (sym c.requires.cells) c.requires.thread) in

@@ -16,15 +16,17 @@ exchange-completion-requires g c = let a = c.load.ensures.2.0 c.if-load-ne-FULL.
     (search rules, (Some a.0, carries _ _ _ _ _ _ c.word_of-word.ensures.cell a.1))
 
 pub store-requires : goal.store-requires
-store-requires g c = let k = c.args.self.now.knows in let a = c.load.ensures.2.0 c.if-load-ne-FULL.false in (
-  search rules,
-  search rules,
-  give_allowed _ _ _ _ _ _ _ a.0 c.args.cells.now.keyed c.word_of-word.ensures.word
-      (in_poll _ _ _ _ _ _ a.0 k.0 a.1 c.exchange-completion.ensures.3) k.2 (search rules) refl,
-)
+store-requires g c = let k = c.args.self.now.knows in
+    let a = c.load.ensures.2.0 c.if-load-ne-FULL.false in (
+      search rules,
+      search rules,
+      give_allowed _ _ _ _ _ _ _ a.0 c.args.cells.now.keyed c.word_of-word.ensures.word
+          (in_poll _ _ _ _ _ _ a.0 k.0 a.1 c.exchange-completion.ensures.3) k.2 (search rules) refl,
+    )
 
 pub invariant_of-self-2 : goal.invariant_of-self-2
-invariant_of-self-2 g c = let k = c.args.self.now.knows in let a = c.load.ensures.2.0 c.if-load-ne-FULL.false in
+invariant_of-self-2 g c = let k = c.args.self.now.knows in
+    let a = c.load.ensures.2.0 c.if-load-ne-FULL.false in
     record {
       knows =
           thread_rests c.store.new.seat _ _

@@ -87,8 +87,10 @@ module _ {M : Type 1} {𝓤 : Ura M} (𝓛 : Logic 𝓤) (𝓜 : Model 𝓤 𝓛
 
     walks : Goes passed
     walks =
-        let r = z.0.3.0 in let s = z.0.3.1.0 in
-        let a' : A.Denot = record { name = a.name; calls = a.calls ++ c ∷ [] } in let b' : B.Denot =
+        let r = z.0.3.0 in
+        let s = z.0.3.1.0 in
+        let a' : A.Denot = record { name = a.name; calls = a.calls ++ c ∷ [] } in
+        let b' : B.Denot =
         record { name = b.name; calls = a.calls ++ c ∷ [] } in
         qed 𝓛 (((‵ (flft z.0.0.0 z.0.1.0) ⊛ ‵ (flft z.0.0.1.0 z.0.1.1.0) ⊛ ‵
         (flft z.0.0.1.1.0 z.0.1.1.1.0) ⊛ ‵ ftrue) ⊛ ‵ args) ∷ raw asked ∷ []) ∵
@@ -132,7 +134,9 @@ module _ {M : Type 1} {𝓤 : Ura M} (𝓛 : Logic 𝓤) (𝓜 : Model 𝓤 𝓛
         ),
       ) held
       (WpFn 𝓤 H 𝓣.C 𝓣.Λ function) (WpFn-mono 𝓤 H 𝓛.laws (tables_of 𝓤 H 𝓜 𝓣) function)
-      (λ z. let a = z.0.3 in let vss = z.0.4 in let Rs : List RattleType = types_at ended.signature.params z.0.0 in
+      (λ z. let a = z.0.3 in
+      let vss = z.0.4 in
+      let Rs : List RattleType = types_at ended.signature.params z.0.0 in
       let On : SProp 𝓤 = on_entry 𝓛 ended.signature z.0.0 z.0.1 a vss in
       fact_use 𝓤 (Are Rs (Ises Rs) a vss)
       (via 𝓤 (sem 𝓛 (owns Rs a vss))

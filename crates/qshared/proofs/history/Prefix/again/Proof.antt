@@ -13,13 +13,16 @@ use Rattle.qshared.proofs.history.Prefix.again.Code as code
 
 pub again_spec : {M : Type 1} → statement M
 again_spec 𝓤 𝓛 𝓜 𝓡 wired =
-    let 𝓣 = tables 𝓤 𝓛.H 𝓜 𝓡 𝓡.env in let c = clauses 𝓛 𝓜.mem 𝓡.returns in
+    let 𝓣 = tables 𝓤 𝓛.H 𝓜 𝓡 𝓡.env in
+    let c = clauses 𝓛 𝓜.mem 𝓡.returns in
     let self = RefOf (0 ∷ []) tt (plain (λ _. Prefix.the_row)) (λ _. tt) in
     let stayed : Stays ended.signature.params ended.kept = (stay_dropped self yes, tt) in
     proved 𝓛 ended stayed c 𝓜 𝓡 (Goes-dropped 𝓛 1 self yes (λ κs x f. refl), tt) #self code.function
     (code.unfolded 𝓤 𝓛.H 𝓜 𝓡 wired)
     (λ κs. (shr_vals, tt)) (λ κs. (shr_Tells (named 0) κs.0 Prefix.the_row, tt)) (λ κs qs bounds a gh are.
-    let s = a.0.now in let p : Val = vptr a.0.ref_ptr.0 a.0.ref_ptr.1 in let y : (walk_of 𝓛 ended stayed c).Ghost =
+    let s = a.0.now in
+    let p : Val = vptr a.0.ref_ptr.0 a.0.ref_ptr.1 in
+    let y : (walk_of 𝓛 ended stayed c).Ghost =
     ((κs, qs, bounds, a, (p ∷ [], tt)), gh) in
     qed 𝓛 ((raw (alive 𝓛 ended.signature κs qs) ⊛ ‵ (owns (types_at ended.signature.params κs) a y.0.4)) ∷ raw
     ((c κs a).requires gh) ∷ []) ∵

@@ -16,7 +16,9 @@ use Rattle.qshared.proofs.history.Prefix.learn.Code as code
 
 pub learn_spec : {M : Type 1} → statement M
 learn_spec 𝓤 𝓛 𝓜 𝓡 wired =
-    let 𝓣 = tables 𝓤 𝓛.H 𝓜 𝓡 𝓡.env in let c = clauses 𝓛 𝓜.mem 𝓡.returns in let A = Prefix.the_row in
+    let 𝓣 = tables 𝓤 𝓛.H 𝓜 𝓡 𝓡.env in
+    let c = clauses 𝓛 𝓜.mem 𝓡.returns in
+    let A = Prefix.the_row in
     let other = RefOf (1 ∷ []) tt (plain (λ _. A)) (λ _. tt) in
     let stayed : Stays ended.signature.params ended.kept =
     (stay_ref (0 ∷ []) tt (plain (λ _. A)), (stay_dropped other yes, tt)) in
@@ -26,9 +28,13 @@ learn_spec 𝓤 𝓛 𝓜 𝓡 wired =
     ) #self code.function (code.unfolded 𝓤 𝓛.H 𝓜 𝓡 wired)
     (λ κs. (mut_vals, (shr_vals, tt))) (λ κs. (mut_Tells (named 0) κs.0 A, (shr_Tells (named 1) κs.1.0 A, tt)))
     (λ κs qs bounds a gh are.
-    let r = a.0 in let d = r.now in let e = a.1.0.now in let d' : A.Denot =
+    let r = a.0 in
+    let d = r.now in
+    let e = a.1.0.now in
+    let d' : A.Denot =
     record { name = d.name; trace = longer d.trace e.trace } in
-    let u : Val = vptr r.ref_ptr.0 r.ref_ptr.1 in let v : Val = vptr a.1.0.ref_ptr.0 a.1.0.ref_ptr.1 in
+    let u : Val = vptr r.ref_ptr.0 r.ref_ptr.1 in
+    let v : Val = vptr a.1.0.ref_ptr.0 a.1.0.ref_ptr.1 in
     let y : (walk_of 𝓛 ended stayed c).Ghost = ((κs, qs, bounds, a, (u ∷ [], (v ∷ [], tt))), gh) in
     let toks : Fml = fsep (flft κs.0 qs.0) (fsep (flft κs.1.0 qs.1.0) ftrue) in
     let told : List (Type 0) =

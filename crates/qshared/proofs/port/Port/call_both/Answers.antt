@@ -4,7 +4,9 @@ use Rattle.qshared.proofs.port.Port.call_both.Goals.{in-Done+then-is_ok, in-Done
 
 pub returns-clause-came : goal.returns-clause-came
 returns-clause-came g c =
-    let self = c.args.self.now in let roster = g.K.Tie.names.roster in let log = g.L.Log in
+    let self = c.args.self.now in
+    let roster = g.K.Tie.names.roster in
+    let log = g.L.Log in
     elim c.match-first.branch [
       | in-Done+then-is_ok w ↦ rw (w.called-is, w.self-is) (record {
         past = _;

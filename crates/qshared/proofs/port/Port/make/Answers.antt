@@ -5,7 +5,9 @@ use Rattle.qshared.proofs.port.Port.make.Goals as goal
 
 pub invariant_of-self : goal.invariant_of-self
 invariant_of-self g c =
-    let self = c.args.self.now in let e = c.call-called.ensures in let t = self.scratch.seat.thread in
+    let self = c.args.self.now in
+    let e = c.call-called.ensures in
+    let t = self.scratch.seat.thread in
     let calls = ap (calls_of self.last.trace) self.scratch_is.0 ∙ self.calls_are in
     let later = subst (λ u. AreLater self.scratch.pending (at_once self.last.trace u) (taken self.seat))
     (sym self.scratch_is.0) self.later in
@@ -35,7 +37,9 @@ invariant_of-self g c =
 
 pub returns-clause-taken : goal.returns-clause-taken
 returns-clause-taken g c =
-    let self = c.args.self.now in let e = c.call-called.ensures in let t = self.scratch.seat.thread in
+    let self = c.args.self.now in
+    let e = c.call-called.ensures in
+    let t = self.scratch.seat.thread in
     let calls = ap (calls_of self.last.trace) self.scratch_is.0 ∙ self.calls_are in
     let later = subst (λ u. AreLater self.scratch.pending (at_once self.last.trace u) (taken self.seat))
     (sym self.scratch_is.0) self.later in

@@ -5,7 +5,8 @@ use Rattle.qshared.proofs.port.Port.sleep.Goals.{then-is_none, else-is_none}
 
 pub returns-clause-taken : goal.returns-clause-taken
 returns-clause-taken g c =
-    let self = c.args.self.now in let once = at_once self.last.trace self.thread in
+    let self = c.args.self.now in
+    let once = at_once self.last.trace self.thread in
     let first = c.take-completion.ensures in
     elim c.if-is_none.branch [
       | then-is_none w ↦

@@ -5,7 +5,8 @@ use Rattle.qshared.proofs.port.Port.wait.Goals.{then-shared, else-shared}
 
 pub returns-in-Some-clause-taken : goal.returns-in-Some-clause-taken
 returns-in-Some-clause-taken g c =
-    let self = c.args.self.now in let once = at_once self.last.trace self.thread in
+    let self = c.args.self.now in
+    let once = at_once self.last.trace self.thread in
     elim c.if-shared.branch [
       | then-shared w ↦ rw w.self-is
           (takes_some _ _ _ c.in-Some.completion (sym w.found-is ∙ c.in-Some.is)

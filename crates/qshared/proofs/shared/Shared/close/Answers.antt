@@ -52,7 +52,8 @@ returns-clause-sum g c =
 
 pub returns-clause-rises : goal.returns-clause-rises
 returns-clause-rises g c =
-    let h = c.traced.invariant.2 in let ts = threads_of g.K.Tie.names.roster in
+    let h = c.traced.invariant.2 in
+    let ts = threads_of g.K.Tie.names.roster in
     let long : count c.args.self.cells ≡ length ts = ap (λ y. y.slots) c.args.self.cells_are ∙ sym h.sized
     ∙ sym (length-map g.K.Tie.names.roster (λ m. m.thread)) in
     let below : AreBelow (length ts) c.close-left.result.items =
@@ -69,7 +70,8 @@ returns-clause-rises g c =
 
 pub returns-clause-known : goal.returns-clause-known
 returns-clause-known g c =
-    let h = c.traced.invariant.2 in let ts = threads_of g.K.Tie.names.roster in
+    let h = c.traced.invariant.2 in
+    let ts = threads_of g.K.Tie.names.roster in
     let long : count c.args.self.cells ≡ length ts = ap (λ y. y.slots) c.args.self.cells_are ∙ sym h.sized
     ∙ sym (length-map g.K.Tie.names.roster (λ m. m.thread)) in
     let below : AreBelow (length ts) c.close-left.result.items =
@@ -86,7 +88,8 @@ returns-clause-known g c =
 
 pub returns-clause-due : goal.returns-clause-due
 returns-clause-due g c =
-    let h = c.traced.invariant.2 in let past = g.L.Log.past c.traced.inside.log in
+    let h = c.traced.invariant.2 in
+    let past = g.L.Log.past c.traced.inside.log in
     let ts = threads_of g.K.Tie.names.roster in
     let ports = c.args.ports.items in
     let long : count c.args.self.cells ≡ length ts = ap (λ y. y.slots) c.args.self.cells_are ∙ sym h.sized

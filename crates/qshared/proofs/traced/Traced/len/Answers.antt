@@ -6,5 +6,6 @@ returns-clause-value g c =
     rw (← c.self.view_is) (c.made.ensures.value ∙ stands_made _ _ _ c.self.invariant.2.told.stands)
 
 pub returns-clause-few : goal.returns-clause-few
-returns-clause-few g c = let h = c.self.invariant.2 in let made = stands_made _ _ _ h.told.stands in
+returns-clause-few g c = let h = c.self.invariant.2 in
+    let made = stands_made _ _ _ h.told.stands in
     omega (arith, c.made.ensures.value, made, h.numbered)

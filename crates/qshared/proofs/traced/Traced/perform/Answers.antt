@@ -56,7 +56,8 @@ pub invariant_of-self-in-Err : goal.invariant_of-self-in-Err
 invariant_of-self-in-Err g c =
     let at : place (threads_of g.K.Tie.names.roster) c.args.scratch.now.seat.thread ≡ Some c.index-place.result =
     c.requires.seat ∙ ap Some (sym c.index-place.ensures) in
-    let up = sym c.is_down.ensures ∙ c.if-is_down.false in let opened = c.if-not-open.ensures.kernel_view in
+    let up = sym c.is_down.ensures ∙ c.if-is_down.false in
+    let opened = c.if-not-open.ensures.kernel_view in
     let wide : length (kernel_view c.self.inside.seat).lines ≡ g.K.Tie.names.cells.slots = c.self.inside.seat.knows.1
     ∙ ap (λ z. z.slots) c.self.invariant.0 in
     let same = c.note.ensures.same in (
@@ -80,7 +81,8 @@ pub returns-in-Err-clause-performs : goal.returns-in-Err-clause-performs
 returns-in-Err-clause-performs g c =
     let at : place (threads_of g.K.Tie.names.roster) c.args.scratch.now.seat.thread ≡ Some c.index-place.result =
     c.requires.seat ∙ ap Some (sym c.index-place.ensures) in
-    let up = sym c.is_down.ensures ∙ c.if-is_down.false in let opened = c.if-not-open.ensures.kernel_view in
+    let up = sym c.is_down.ensures ∙ c.if-is_down.false in
+    let opened = c.if-not-open.ensures.kernel_view in
     let wide : length (kernel_view c.self.inside.seat).lines ≡ g.K.Tie.names.cells.slots = c.self.inside.seat.knows.1
     ∙ ap (λ z. z.slots) c.self.invariant.0 in
     let same = c.note.ensures.same in
@@ -122,7 +124,8 @@ pub event-requires-clause-thread : goal.event-requires-clause-thread
 event-requires-clause-thread g c =
     let at : place (threads_of g.K.Tie.names.roster) c.args.scratch.now.seat.thread ≡ Some c.index-place.result =
     c.requires.seat ∙ ap Some (sym c.index-place.ensures) in
-    let up = sym c.is_down.ensures ∙ c.if-is_down.false in let opened = c.if-not-open.ensures.kernel_view in
+    let up = sym c.is_down.ensures ∙ c.if-is_down.false in
+    let opened = c.if-not-open.ensures.kernel_view in
     let wide : length (kernel_view c.self.inside.seat).lines ≡ g.K.Tie.names.cells.slots = c.self.inside.seat.knows.1
     ∙ ap (λ z. z.slots) c.self.invariant.0 in
     let same = c.note.ensures.same in
@@ -145,7 +148,8 @@ hand_out-own-requires-clause-apart g c =
     c.make_at.new.completions.items c.make_at.new.kernel = c.make_at.ensures.event in
     let at : place (threads_of g.K.Tie.names.roster) c.args.scratch.now.seat.thread ≡ Some c.index-place.result =
     c.requires.seat ∙ ap Some (sym c.index-place.ensures) in
-    let up = sym c.is_down.ensures ∙ c.if-is_down.false in let opened = c.if-not-open.ensures.kernel_view in
+    let up = sym c.is_down.ensures ∙ c.if-is_down.false in
+    let opened = c.if-not-open.ensures.kernel_view in
     let wide : length (kernel_view c.self.inside.seat).lines ≡ g.K.Tie.names.cells.slots = c.self.inside.seat.knows.1
     ∙ ap (λ z. z.slots) c.self.invariant.0 in
     apart _ _ _ _ _ _ c.self.invariant.2 c.args.scratch.now.seat.thread c.index-place.result at up opened.1 wide
@@ -157,7 +161,8 @@ hand_out-own-requires-clause-may g c =
     c.make_at.new.completions.items c.make_at.new.kernel = c.make_at.ensures.event in
     let at : place (threads_of g.K.Tie.names.roster) c.args.scratch.now.seat.thread ≡ Some c.index-place.result =
     c.requires.seat ∙ ap Some (sym c.index-place.ensures) in
-    let up = sym c.is_down.ensures ∙ c.if-is_down.false in let opened = c.if-not-open.ensures.kernel_view in
+    let up = sym c.is_down.ensures ∙ c.if-is_down.false in
+    let opened = c.if-not-open.ensures.kernel_view in
     let wide : length (kernel_view c.self.inside.seat).lines ≡ g.K.Tie.names.cells.slots = c.self.inside.seat.knows.1
     ∙ ap (λ z. z.slots) c.self.invariant.0 in
     rw (c.make_at.ensures.roster, opened.0)
@@ -170,7 +175,8 @@ invariant_of-self-2 g c =
     c.make_at.new.completions.items c.make_at.new.kernel = c.make_at.ensures.event in
     let at : place (threads_of g.K.Tie.names.roster) c.args.scratch.now.seat.thread ≡ Some c.index-place.result =
     c.requires.seat ∙ ap Some (sym c.index-place.ensures) in
-    let up = sym c.is_down.ensures ∙ c.if-is_down.false in let opened = c.if-not-open.ensures.kernel_view in
+    let up = sym c.is_down.ensures ∙ c.if-is_down.false in
+    let opened = c.if-not-open.ensures.kernel_view in
     let wide : length (kernel_view c.self.inside.seat).lines ≡ g.K.Tie.names.cells.slots = c.self.inside.seat.knows.1
     ∙ ap (λ z. z.slots) c.self.invariant.0 in
     let handed = rw (c.make_at.ensures.roster, opened.0) at c.hand_out-own.ensures.handed in
@@ -181,7 +187,8 @@ invariant_of-self-2 g c =
     (g.L.Log.past c.note.new.self)) c.in_default.ensures.noted.0
     ∙ ap (λ p. with_event c.args.scratch.now.seat.thread c.args.call c.make_at.new.completions.items p)
     c.note.ensures.same.0 in
-    let t = c.args.scratch.now.seat.thread in let X = c.make_at.new.completions.items in
+    let t = c.args.scratch.now.seat.thread in
+    let X = c.make_at.new.completions.items in
     let seen = c.add.ensures.past
     ∙ ap (λ u. with_event u c.of-asking.result.value c.deref-2.result.now.items c.look.new.self.trace)
     c.thread-thread.ensures ∙ ap (λ k. with_event t k c.deref-2.result.now.items c.look.new.self.trace)
@@ -207,7 +214,8 @@ returns-clause-performs g c =
     c.make_at.new.completions.items c.make_at.new.kernel = c.make_at.ensures.event in
     let at : place (threads_of g.K.Tie.names.roster) c.args.scratch.now.seat.thread ≡ Some c.index-place.result =
     c.requires.seat ∙ ap Some (sym c.index-place.ensures) in
-    let up = sym c.is_down.ensures ∙ c.if-is_down.false in let opened = c.if-not-open.ensures.kernel_view in
+    let up = sym c.is_down.ensures ∙ c.if-is_down.false in
+    let opened = c.if-not-open.ensures.kernel_view in
     let wide : length (kernel_view c.self.inside.seat).lines ≡ g.K.Tie.names.cells.slots = c.self.inside.seat.knows.1
     ∙ ap (λ z. z.slots) c.self.invariant.0 in
     let past = c.event.ensures.event
