@@ -27,7 +27,7 @@ fits (calls.ReceivePulse chid) (mark.Pulse item priority what) = true
 fits (calls.Read rcvid offset buffer) (mark.Count copied) = true
 fits (calls.Write rcvid offset bytes) (mark.Count copied) = true
 fits (calls.Info rcvid) (mark.Info info) = true
-fits (calls.ThreadStatus thread) (mark.ThreadStatus state priority) = true
+fits (calls.State thread) (mark.State state priority) = true
 fits (calls.ChannelDestroy chid) mark.Ok = true
 fits (calls.ConnectDetach coid) mark.Ok = true
 fits (calls.Reply rcvid status bytes) mark.Ok = true
@@ -54,7 +54,7 @@ reading_of (calls.ReceivePulse chid) = (Pulse, pulse_in)
 reading_of (calls.Read rcvid offset buffer) = (List ℕ, bytes_in)
 reading_of (calls.Write rcvid offset bytes) = (ℕ, count_in)
 reading_of (calls.Info rcvid) = (Info, info_in)
-reading_of (calls.ThreadStatus thread) = (ThreadStatus, state_in)
+reading_of (calls.State thread) = (ThreadStatus, state_in)
 reading_of other = (⊤, done_in)
 
 -- the value of a call with this completion is never read as `Unexpected`, whether the call waited or not

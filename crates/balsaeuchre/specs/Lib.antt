@@ -17,7 +17,7 @@ pub use Rattle.qrules.specs.Properties
 pub use Rattle.qkernel_state.specs.Thread
 pub use Rattle.qkernel.specs.Kernel
 pub use Rattle.qkernel.specs.LentCall
-pub use Rattle.qkernel.specs.Stands
+pub use Rattle.qkernel.specs.Matching
 pub use Rattle.qkernel.specs.Run
 pub use Rattle.qkernel.specs.Blocked
 -- the shared kernel and its ports
@@ -30,7 +30,7 @@ pub use Rattle.qshared.specs.Due
 pub use Rattle.qshared.specs.Names
 pub use Rattle.qshared.specs.Naming
 pub use Rattle.qshared.specs.TwoCalls
-pub use Rattle.qshared.specs.Unkept
+pub use Rattle.qshared.specs.Unrecorded
 -- the calls under QNX's names: the record of an endpoint, the effect of a call, and how its result is read
 pub use Rattle.balsaeuchre_calls.specs.History
 pub use Rattle.balsaeuchre_calls.specs.Errors

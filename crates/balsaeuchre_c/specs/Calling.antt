@@ -5,7 +5,7 @@ use Rattle.std.specs.Option.{option_map_or}
 use Rattle.qbase.specs.declared.errno.Errno.{Errno}
 use Rattle.qbase.specs.declared.errno.Errno.TheVariants.{Inval}
 use Rattle.qkernel.specs.Kernel.{IsSound, State}
-use Rattle.qkernel.specs.Stands.{AnswersAtTraces, DispatchError, StandsAt}
+use Rattle.qkernel.specs.Matching.{AnswersAtTraces, DispatchError, MatchesAt}
 use Rattle.qrules.specs.Lawful.{IsLawful, facts_of}
 use Rattle.qrules.specs.Rule.{buffer_of}
 use Rattle.qrules.specs.Facts.{sender}
@@ -14,7 +14,7 @@ use Rattle.qrules.specs.Trace.{call_at, Trace}
 use Rattle.qmodel.specs.declared.call.Call.{Call}
 use Rattle.qmodel.specs.declared.call.Completion.{Completion}
 use Rattle.qmodel.specs.declared.call.Mark.TheVariants as mark
-use Rattle.qkernel_state.specs.Kept.{members_of}
+use Rattle.qkernel_state.specs.Contents.{members_of}
 use Rattle.qtables.specs.Members.{member_at}
 use Rattle.qtables.specs.declared.member.Member.{Member}
 use Rattle.balsaeuchre_c.specs.declared.request.CallRequest.{CallRequest}
@@ -30,7 +30,7 @@ use Rattle.balsaeuchre_c.specs.WriteRows.{IsTold}
 abbrev pub OfEachRow : (List Member → Trace → Completion → Row → Type 0)
     → State → ℕ → Call → List Completion → List Row → Type 0
 OfEachRow P old t call completions rows =
-    (roster : List Member) (past : Trace) → IsLawful roster past → StandsAt roster old past
+    (roster : List Member) (past : Trace) → IsLawful roster past → MatchesAt roster old past
     → (place : ℕ) (e : Completion) (row : Row)
     → slice_get completions place ≡ Some e → slice_get rows place ≡ Some row
     → P roster (record { thread = t; call = call; completions = completions } ∷ past) e row

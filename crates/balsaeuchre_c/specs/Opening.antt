@@ -6,7 +6,7 @@ use Rattle.qbase.specs.declared.errno.Errno.{Errno}
 use Rattle.qbase.specs.declared.errno.Errno.TheVariants.{Inval, NoMemory}
 use Rattle.qtables.specs.Members.{join_refusal, with_member}
 use Rattle.qtables.specs.declared.member.Member.{Member}
-use Rattle.qkernel.specs.Stands.{StandsAt}
+use Rattle.qkernel.specs.Matching.{MatchesAt}
 use Rattle.balsaeuchre_c.specs.declared.roster.RosterThread.{RosterThread}
 use Rattle.balsaeuchre_c.specs.declared.session.Session.{Session}
 
@@ -35,7 +35,7 @@ roster_from members (t ∷ threads) =
 pub record IsNewOf (threads : List RosterThread) (session : Session) : Type 0 where
   pub roster : List Member
   pub roster_is : roster_from [] threads ≡ Ok roster
-  pub stands : StandsAt roster session.kernel []
+  pub matches : MatchesAt roster session.kernel []
 
 -- the error of making a kernel: the threads make no roster, or there is no memory
 abbrev pub NewError : List RosterThread → Errno → Type 0

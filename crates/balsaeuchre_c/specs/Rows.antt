@@ -6,7 +6,7 @@ use Rattle.qbase.specs.declared.state.ThreadState.TheVariants as state
 use Rattle.qqueue.specs.declared.item.What.{What}
 use Rattle.qqueue.specs.declared.item.What.TheVariants as what
 use Rattle.qkernel.specs.Kernel.{State}
-use Rattle.qkernel.specs.Stands.{InfoAtTraces}
+use Rattle.qkernel.specs.Matching.{InfoAtTraces}
 use Rattle.qmodel.specs.declared.call.Completion.{Completion}
 use Rattle.qmodel.specs.declared.call.Info.{Info}
 use Rattle.qmodel.specs.declared.call.Mark.{Mark}

@@ -1,7 +1,7 @@
 //! Makes a call for C, and writes its completions.
 
 ghost use Rattle.std.specs.Prelude.{◌≡◌, length, IfOk, IfErr};
-ghost use Rattle.qkernel_state.specs.Kept.{members_of};
+ghost use Rattle.qkernel_state.specs.Contents.{members_of};
 ghost use Rattle.balsaeuchre_c.specs.Calling.{CallError, IsEvent};
 
 use crate::request::CallRequest;

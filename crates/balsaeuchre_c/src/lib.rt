@@ -4,7 +4,7 @@
 
 ghost use Rattle.std.specs.Prelude.{◌≡◌, ◌≤◌, length, Some};
 ghost use Rattle.qbase.specs.declared.errno.Errno.{Errno};
-ghost use Rattle.qkernel_state.specs.Kept.{members_of};
+ghost use Rattle.qkernel_state.specs.Contents.{members_of};
 ghost use Rattle.balsaeuchre_c.specs.declared.session.Session.{Session};
 ghost use Rattle.qbase.specs.declared.errno.TheConstants.{ERRNOS};
 ghost use Rattle.balsaeuchre_c.specs.Calling.{CallError, IsEvent};

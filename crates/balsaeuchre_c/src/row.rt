@@ -1,7 +1,7 @@
 //! A completion in the form that C gets: only numbers.
 
 ghost use Rattle.std.specs.Prelude.{◌≡◌, ℕ, length, Some};
-ghost use Rattle.qkernel.specs.Stands.{InfoAtTraces};
+ghost use Rattle.qkernel.specs.Matching.{InfoAtTraces};
 ghost use Rattle.qmodel.specs.declared.call.Completion.{Completion};
 ghost use Rattle.balsaeuchre_c.specs.Rows.{mark_of, told_bytes, Fills, IsOf, Tells};
 

@@ -3,8 +3,8 @@
 ghost use Rattle.std.specs.Prelude.{◌≡◌, ◌<◌, ◌^◌, ◌⊎◌, [], true, is_some, IfOk, IfErr};
 ghost use Rattle.qkernel.specs.Kernel.{IsSound};
 ghost use Rattle.qkernel.specs.LentCall.{call_lent};
-ghost use Rattle.qkernel.specs.Stands.{AnswersAtTraces, DispatchError};
-ghost use Rattle.qkernel_state.specs.Kept.{members_of};
+ghost use Rattle.qkernel.specs.Matching.{AnswersAtTraces, DispatchError};
+ghost use Rattle.qkernel_state.specs.Contents.{members_of};
 ghost use Rattle.qkernel_state.specs.Threads.{IsSeatIn};
 ghost use Rattle.qtables.specs.Members.{member_at};
 ghost use Rattle.balsaeuchre_c.specs.Calling.{IsMade};

@@ -5,7 +5,7 @@ use Rattle.balsaeuchre_calls.proofs.Common.{ℕ, ◌∙◌, ◌≡◌}
 use Rattle.std.specs.Prelude.{Option, None, Some, List, Bool, is_some, nat_lt, ◌^◌}
 use Rattle.qbase.specs.declared.errno.Errno.TheVariants as errno
 use Rattle.qtables.specs.Members.{member_at}
-use Rattle.qkernel_state.specs.Kept.{members_of}
+use Rattle.qkernel_state.specs.Contents.{members_of}
 use Rattle.qbase.specs.declared.errno.Errno.{Errno}
 use Rattle.balsaeuchre_calls.specs.Simulating.{Comes, IsEvent, Simulates, Simulation, at_once, done, completed_of}
 use Rattle.balsaeuchre_calls.specs.Simulating.{unless_blocked, unmade}

@@ -67,5 +67,5 @@ info_in waited other buffer = Err (error_in waited other)
 
 -- a thread's state and priority
 abbrev pub state_in : Reading ThreadStatus
-state_in waited (mark.ThreadStatus state priority) buffer = Ok (record { state = state; priority = priority })
+state_in waited (mark.State state priority) buffer = Ok (record { state = state; priority = priority })
 state_in waited other buffer = Err (error_in waited other)

@@ -8,9 +8,9 @@ use Rattle.qbase.specs.declared.errno.Errno.TheVariants as errno
 use Rattle.qtables.specs.Members.{member_at}
 use Rattle.qmodel.specs.declared.call.Call.{Call}
 use Rattle.qmodel.specs.declared.call.Completion.{Completion}
-use Rattle.qkernel_state.specs.Kept.{members_of}
+use Rattle.qkernel_state.specs.Contents.{members_of}
 use Rattle.qkernel.specs.Kernel.{State}
-use Rattle.qkernel.specs.Stands.{AnswersAtTraces, LeavesIfRefused}
+use Rattle.qkernel.specs.Matching.{AnswersAtTraces, LeavesIfRefused}
 use Rattle.balsaeuchre_calls.specs.Errors.{refusal}
 use Rattle.balsaeuchre_calls.specs.Results.{Reading}
 use Rattle.balsaeuchre_calls.specs.declared.completed.Completed.{Completed}
@@ -21,7 +21,7 @@ use Rattle.balsaeuchre_calls.specs.declared.simulator.Outcome.TheVariants.{Done,
 
 -- the kernel's content, and the completions of blocked calls that weren't taken yet, the oldest first
 pub record Simulation : Type 0 where
-  pub kernel : ThreadStatus
+  pub kernel : State
   pub kept : List Completion
 
 -- true if this is the completion of a call of thread t

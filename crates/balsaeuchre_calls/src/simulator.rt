@@ -1,7 +1,7 @@
 //! A simulator: one caller makes the calls of all threads to a kernel that it owns.
 
 ghost use Rattle.std.specs.Prelude.{◌≡◌, ◌≤◌, [], Some, is_some, length, option_map, IfOk, IfErr};
-ghost use Rattle.qkernel.specs.Stands.{StandsAt};
+ghost use Rattle.qkernel.specs.Matching.{MatchesAt};
 ghost use Rattle.qkernel_state.specs.Thread.{open_in};
 ghost use Rattle.balsaeuchre_calls.specs.Making.{completed_in};
 ghost use Rattle.balsaeuchre_calls.specs.Simulating.{done};
@@ -80,7 +80,7 @@ impl Simulator {
     /// Makes a simulator of a kernel without channels, in which all threads of the roster are ready. It
     /// allocates the kernel and room for completions; `NoMemory` is the only error.
     pub fn new(alloc: Global, roster: &Roster) -> Result<Simulator, CallError>
-        ensures stands { IfOk result (λ s. StandsAt roster.now s.kernel []) }
+        ensures matches { IfOk result (λ s. MatchesAt roster.now s.kernel []) }
         ensures none { IfOk result (λ s. s.kept ≡ []) }
         ensures error { IfErr result (λ e. e ≡ error.NoMemory) }
     {

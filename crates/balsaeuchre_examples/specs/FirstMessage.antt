@@ -4,7 +4,7 @@ use Rattle.qtables.specs.declared.member.Member.{Member}
 use Rattle.qmodel.specs.declared.call.Call.TheVariants.{ChannelCreate, ConnectAttach, Send, Receive, Reply}
 use Rattle.qmodel.specs.declared.call.Mark.TheVariants as mark
 use Rattle.qrules_worked.specs.Runs.{member, event, ended, flags_of}
-use Rattle.balsaeuchre.specs.Laying.{laid_count, lay_over}
+use Rattle.balsaeuchre.specs.Copying.{laid_count, lay_over}
 use Rattle.balsaeuchre.specs.Trace.{Event}
 
 -- a server and a client, each in its own process

@@ -3,7 +3,7 @@
 //! that was sent earlier.
 
 ghost use Rattle.std.specs.Prelude.{◌≡◌, [], pos, IfOk};
-ghost use Rattle.balsaeuchre.specs.Stands.{StandsAt};
+ghost use Rattle.balsaeuchre.specs.Matching.{MatchesAt};
 ghost use Rattle.balsaeuchre_examples.specs.Carried.{roster, events};
 ghost use Rattle.balsaeuchre_examples.specs.Written.{IsRunOf};
 
@@ -49,7 +49,7 @@ fn roster_of_four(alloc: Global) -> Result<Roster, Errno>
 
 /// Returns a kernel of the four threads that has made no call.
 fn kernel_of_four(alloc: Global) -> Result<Kernel, Errno>
-    ensures { IfOk result (λ kernel. StandsAt roster kernel []) }
+    ensures { IfOk result (λ kernel. MatchesAt roster kernel []) }
 {
     let roster = roster_of_four(alloc)?;
     Ok(Kernel::new(alloc, &roster)?)

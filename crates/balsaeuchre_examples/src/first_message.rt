@@ -1,7 +1,7 @@
 //! All steps in one file: a roster, a kernel, a channel, a connection, a message and its reply.
 
 ghost use Rattle.std.specs.Prelude.{◌≡◌, [], IfOk};
-ghost use Rattle.balsaeuchre.specs.Stands.{StandsAt};
+ghost use Rattle.balsaeuchre.specs.Matching.{MatchesAt};
 ghost use Rattle.balsaeuchre_examples.specs.FirstMessage.{roster, events};
 ghost use Rattle.balsaeuchre_examples.specs.Written.{IsRunOf};
 
@@ -27,7 +27,7 @@ fn roster_of_two(alloc: Global) -> Result<Roster, Errno>
 
 /// Returns a kernel of both threads that has made no call.
 fn kernel_of_two(alloc: Global) -> Result<Kernel, Errno>
-    ensures { IfOk result (λ kernel. StandsAt roster kernel []) }
+    ensures { IfOk result (λ kernel. MatchesAt roster kernel []) }
 {
     let roster = roster_of_two(alloc)?;
     Ok(Kernel::new(alloc, &roster)?)

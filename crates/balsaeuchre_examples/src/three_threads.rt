@@ -2,7 +2,7 @@
 //! thread of the client's process.
 
 ghost use Rattle.std.specs.Prelude.{◌≡◌, [], pos, IfOk};
-ghost use Rattle.balsaeuchre.specs.Stands.{StandsAt};
+ghost use Rattle.balsaeuchre.specs.Matching.{MatchesAt};
 ghost use Rattle.balsaeuchre_examples.specs.ThreeThreads.{roster};
 
 use balsaeuchre::{
@@ -33,7 +33,7 @@ fn roster_of_three(alloc: Global) -> Result<Roster, Errno>
 
 /// Returns a kernel of the three threads that has made no call.
 pub fn kernel_of_three(alloc: Global) -> Result<Kernel, Errno>
-    ensures { IfOk result (λ kernel. StandsAt roster kernel []) }
+    ensures { IfOk result (λ kernel. MatchesAt roster kernel []) }
 {
     let roster = roster_of_three(alloc)?;
     Ok(Kernel::new(alloc, &roster)?)

@@ -42,12 +42,12 @@ module _ {T : Type 0} where
         keeps,
         tt,
         kernel_changes n id t s k d at h 1 (record l { opened = true }) s.homes k.slots (λ u ne. refl) refl
-            (fits_open m l (k.hand t) _ fit e),
+            (fits_open m l (k.thread_view t) _ fit e),
         (
           (λ z. (
             ap (λ u. (Kernel (opened_kernel_view d u), [])) back,
             ap (λ u. (line d u).opened) (sym back)
-                ∙ fits_idle m l (k.hand t) _ fit e,
+                ∙ fits_idle m l (k.thread_view t) _ fit e,
           )),
           (λ ne. absurd (ne e)),
         ),
@@ -57,7 +57,10 @@ module _ {T : Type 0} where
         keeps,
         tt,
         same n id (word_of t) s (Kernel d) k at,
-        ((λ z. absurd (ne z)), (λ z. (refl, subst (λ u. IsBusy (line d u)) back (fits_busy m l (k.hand t) _ fit ne)))),
+        (
+          (λ z. absurd (ne z)),
+          (λ z. (refl, subst (λ u. IsBusy (line d u)) back (fits_busy m l (k.thread_view t) _ fit ne))),
+        ),
       ))
 
   cancels_here : (n id t : ℕ) (d : KernelView T) → t < n → (line d t).opened ≡ true → (line d t).putting ≡ false
@@ -69,7 +72,10 @@ module _ {T : Type 0} where
         keeps,
         tt,
         kernel_changes n id t s k d at h 0
-            (record l { opened = false }) s.homes k.slots (λ u ne. refl) refl (fits_cancel _ l (k.hand t) _ fit a b),
+            (record l {
+              opened =
+                  false;
+            }) s.homes k.slots (λ u ne. refl) refl (fits_cancel _ l (k.thread_view t) _ fit a b),
         ap (λ u. (Kernel (cancelled_kernel_view d u), [])) (sym (cell_of_word t)),
       )
 
@@ -79,13 +85,13 @@ module _ {T : Type 0} where
   begins_here n id t d h a b s k long at small = let m : ℕ = get_or s.words (word_of t) 0 in
       let l = line d t in
       let fit = kernel_sees n id t s k d at h in
-      let r = fits_begin m l (k.hand t) _ fit a b in (
+      let r = fits_begin m l (k.thread_view t) _ fit a b in (
         Kernel (putting_kernel_view d t),
         takes t None,
         r.0,
         kernel_changes n id t s k d at h m (record l { putting = true }) (set s.homes t none)
             (length-set s.homes t none ∙ k.slots) (λ u ne. set_else s.homes t u none ne) refl
-            (subst (Fits m (record l { putting = true }) (k.hand t))
+            (subst (Fits m (record l { putting = true }) (k.thread_view t))
             (sym (set_here s.homes t none (omega (arith, k.slots)))) r.1),
         ap (λ u. (Kernel (putting_kernel_view d u), (u, None) ∷ [])) (sym (cell_of_word t)),
       )
@@ -111,8 +117,8 @@ module _ {T : Type 0} where
         tt,
         kernel_changes n id t s k d at h 2 l' (set s.homes t (some (Some x)))
             (length-set s.homes t (some (Some x)) ∙ k.slots) (λ u ne. set_else s.homes t u (some (Some x)) ne) refl
-            (subst (Fits 2 l' (k.hand t)) (sym (set_here s.homes t (some (Some x)) (omega (arith, k.slots))))
-            (fits_end _ l (k.hand t) _ x fit a)),
+            (subst (Fits 2 l' (k.thread_view t)) (sym (set_here s.homes t (some (Some x)) (omega (arith, k.slots))))
+            (fits_end _ l (k.thread_view t) _ x fit a)),
         (λ y e. ap (λ z. (Kernel (put_kernel_view d t z), [])) (one t _ x y e)
             ∙ ap (λ u. (Kernel (put_kernel_view d u y), [])) (sym (cell_of_word t))),
       )

@@ -25,7 +25,7 @@ module _ {T : Type 0} where
       → get_elem? s.views i ≡ some (Kernel d) → get_elem? s.views j ≡ some (Thread h) → h.thread < n
       → Near h.taken (line d h.thread).put
   taken_is_near n s d h i j k at at' near = let near' =
-      fits_near (get_or s.words (word_of h.thread) 0) (line k.kernel_view h.thread) (k.hand h.thread)
+      fits_near (get_or s.words (word_of h.thread) 0) (line k.kernel_view h.thread) (k.thread_view h.thread)
       (get_elem? s.homes h.thread) (k.each_cell h.thread near).0 in
       subst (λ (z : KernelView T × ThreadView T). Near z.1.taken (line z.0 h.thread).put)
       (λ e. (sym (k.each_seat i (Kernel d) at).1 e, sym (k.each_seat j (Thread h) at').1 e)) near'

@@ -10,16 +10,16 @@ use Rattle.std.proofs.lemmas.Bool.{false≢true}
 use Rattle.std.proofs.Math.Nat.{mul-div_cancel}
 use mathlib.Core.Option as maybe
 
-pub hand_at : {H : Type 0} → (ℕ → H) → ℕ → H → ℕ → H
-hand_at f t h u = if eqb u t then h else f u
+pub thread_view_at : {H : Type 0} → (ℕ → H) → ℕ → H → ℕ → H
+thread_view_at f t h u = if eqb u t then h else f u
 
-pub hand_here : {H : Type 0} → (f : ℕ → H) (t : ℕ) (h : H) (u : ℕ) → u ≡ t → hand_at f t h u ≡ h
-unfolding hand_at
-hand_here f t h u e = subst (λ b. (if b then h else f u) ≡ h) (sym (eq-eqb u t e)) refl
+pub own_thread_view : {H : Type 0} → (f : ℕ → H) (t : ℕ) (h : H) (u : ℕ) → u ≡ t → thread_view_at f t h u ≡ h
+unfolding thread_view_at
+own_thread_view f t h u e = subst (λ b. (if b then h else f u) ≡ h) (sym (eq-eqb u t e)) refl
 
-pub hand_else : {H : Type 0} → (f : ℕ → H) (t : ℕ) (h : H) (u : ℕ) → u ≢ t → hand_at f t h u ≡ f u
-unfolding hand_at
-hand_else f t h u n = subst (λ b. (if b then h else f u) ≡ f u) (sym (ne_eqb u t n)) refl
+pub other_thread_view : {H : Type 0} → (f : ℕ → H) (t : ℕ) (h : H) (u : ℕ) → u ≢ t → thread_view_at f t h u ≡ f u
+unfolding thread_view_at
+other_thread_view f t h u n = subst (λ b. (if b then h else f u) ≡ f u) (sym (ne_eqb u t n)) refl
 
 pub there : {A : Type 0} → (l : List A) (i : ℕ) (a : A) → get_elem? l i ≡ some a → i < length l
 there [] i a e = absurd (some-ne-none a (sym e))
@@ -58,26 +58,29 @@ module _ {T : Type 0} where
       dite (ℕ_discrete u t) (λ e. ap (λ x. x.taken) (line_here d t l u e h) ∙ same
       ∙ ap (λ v. (line d v).taken) (sym e)) (λ n. ap (λ x. x.taken) (line_else d t l u n))
 
-  knows_kernel : (d d' : KernelView T) (hand : ℕ → ThreadView T) (j : ℕ) (v : View T) → j ≢ 0
-      → ((u : ℕ) → (line d' u).taken ≡ (line d u).taken) → Knows d hand j v → Knows d' hand j v
-  knows_kernel d d' hand j (Kernel e) n same k = absurd (n k.0)
-  knows_kernel d d' hand j (Thread h) n same k = (k.0, k.1, same h.thread ∙ k.2)
-  knows_kernel d d' hand j Joined n same k = tt
+  knows_kernel : (d d' : KernelView T) (thread_view : ℕ → ThreadView T) (j : ℕ) (v : View T) → j ≢ 0
+      → ((u : ℕ) → (line d' u).taken ≡ (line d u).taken) → Knows d thread_view j v → Knows d' thread_view j v
+  knows_kernel d d' thread_view j (Kernel e) n same k = absurd (n k.0)
+  knows_kernel d d' thread_view j (Thread h) n same k = (k.0, k.1, same h.thread ∙ k.2)
+  knows_kernel d d' thread_view j Joined n same k = tt
 
   abbrev pub CellOk : ℕ → CellView T → ThreadView T → maybe.Option (maybe.Option (Option T)) → Type 0
   CellOk w l h o = Fits w l h o × Settled l.taken h
 
   -- every cell except t is unchanged
-  pub cells_stay : (n t : ℕ) (words words' : List ℕ) (lines lines' : ℕ → CellView T) (hand hand' : ℕ → ThreadView T)
+  pub cells_stay : (n t : ℕ) (words words' : List ℕ) (lines lines' : ℕ → CellView T) (thread_view thread_view' : ℕ
+      → ThreadView T)
       (homes homes' : Homes T)
       → ((u : ℕ) → u ≢ t → get_or words' (word_of u) 0 ≡ get_or words (word_of u) 0)
-      → ((u : ℕ) → u ≢ t → lines' u ≡ lines u) → ((u : ℕ) → u ≢ t → hand' u ≡ hand u)
+      → ((u : ℕ) → u ≢ t → lines' u ≡ lines u) → ((u : ℕ) → u ≢ t → thread_view' u ≡ thread_view u)
       → ((u : ℕ) → u ≢ t → get_elem? homes' u ≡ get_elem? homes u)
-      → ((u : ℕ) → u < n → CellOk (get_or words (word_of u) 0) (lines u) (hand u) (get_elem? homes u))
-      → CellOk (get_or words' (word_of t) 0) (lines' t) (hand' t) (get_elem? homes' t)
-      → (u : ℕ) → u < n → CellOk (get_or words' (word_of u) 0) (lines' u) (hand' u) (get_elem? homes' u)
-  cells_stay n t words words' lines lines' hand hand' homes homes' ws ls hs os old now u h = dite (ℕ_discrete u t)
-      (λ e. subst (λ v. CellOk (get_or words' (word_of v) 0) (lines' v) (hand' v) (get_elem? homes' v)) (sym e) now)
+      → ((u : ℕ) → u < n → CellOk (get_or words (word_of u) 0) (lines u) (thread_view u) (get_elem? homes u))
+      → CellOk (get_or words' (word_of t) 0) (lines' t) (thread_view' t) (get_elem? homes' t)
+      → (u : ℕ) → u < n → CellOk (get_or words' (word_of u) 0) (lines' u) (thread_view' u) (get_elem? homes' u)
+  cells_stay n t words words' lines lines' thread_view thread_view' homes homes' ws ls hs os old now u h =
+      dite (ℕ_discrete u t)
+      (λ e. subst
+      (λ v. CellOk (get_or words' (word_of v) 0) (lines' v) (thread_view' v) (get_elem? homes' v)) (sym e) now)
       (λ ne.
       subst (λ (z : ℕ × CellView T × ThreadView T × maybe.Option (maybe.Option (Option T))). CellOk z.0 z.1 z.2 z.3)
       (λ i. (sym (ws u ne) i, sym (ls u ne) i, sym (hs u ne) i, sym (os u ne) i)) (old u h))
@@ -85,7 +88,7 @@ module _ {T : Type 0} where
   -- the kernel's token changes cell t
   kernel_step : (n t : ℕ) (s : St T) (k : KeepsRule n s) → t < n → (w : ℕ) (l : CellView T) (homes : Homes T)
       → length homes ≡ n → ((u : ℕ) → u ≢ t → get_elem? homes u ≡ get_elem? s.homes u)
-      → l.taken ≡ (line k.kernel_view t).taken → Fits w l (k.hand t) (get_elem? homes t)
+      → l.taken ≡ (line k.kernel_view t).taken → Fits w l (k.thread_view t) (get_elem? homes t)
       → KeepsRule n record {
         words = set s.words (word_of t) w;
         homes = homes;
@@ -98,7 +101,7 @@ module _ {T : Type 0} where
       let stays = taken_stays k.kernel_view t l near same in
       record {
         kernel_view = d;
-        hand = k.hand;
+        thread_view = k.thread_view;
         words = length-set s.words (word_of t) w ∙ k.words;
         slots = long;
         lines = length-set k.kernel_view.lines t l ∙ k.lines;
@@ -107,24 +110,24 @@ module _ {T : Type 0} where
         unmade = λ u e. ((k.unmade u e).0, stays u ∙ (k.unmade u e).1);
         each_cell =
             cells_stay n t s.words (set s.words (word_of t) w) (line k.kernel_view)
-            (line d) k.hand k.hand s.homes homes (λ u ne. other_word s.words t u w ne)
+            (line d) k.thread_view k.thread_view s.homes homes (λ u ne. other_word s.words t u w ne)
             (λ u ne. line_else k.kernel_view t l u ne) (λ u ne. refl) others k.each_cell
-            (subst (λ (z : ℕ × CellView T). CellOk z.0 z.1 (k.hand t) (get_elem? homes t))
+            (subst (λ (z : ℕ × CellView T). CellOk z.0 z.1 (k.thread_view t) (get_elem? homes t))
             (λ i. (
               sym (get_or-set_same s.words (word_of t) w 0 (omega (arith, k.words, h))) i,
               sym (line_here k.kernel_view t l t refl near) i,
             ))
-            (fits, subst (λ o. Settled o (k.hand t)) (sym same) (k.each_cell t h).1));
-        each_seat = λ j v e. ⊎_elim (λ (q : (j ≡ 0) × (Kernel d ≡ v)). subst (Knows d k.hand j) q.1 (q.0, refl))
-            (λ (q : (j ≢ 0) × (get_elem? s.views j ≡ some v)). knows_kernel k.kernel_view d k.hand j v q.0 stays
+            (fits, subst (λ o. Settled o (k.thread_view t)) (sym same) (k.each_cell t h).1));
+        each_seat = λ j v e. ⊎_elim (λ (q : (j ≡ 0) × (Kernel d ≡ v)). subst (Knows d k.thread_view j) q.1 (q.0, refl))
+            (λ (q : (j ≢ 0) × (get_elem? s.views j ≡ some v)). knows_kernel k.kernel_view d k.thread_view j v q.0 stays
             (k.each_seat j v q.1)) (at_set s.views 0 j (Kernel d) v e);
       }
 
-  -- the same, for a token that knows a desk
+  -- the same, for a token that knows a kernel view
   pub kernel_changes : (n id t : ℕ) (s : St T) (k : KeepsRule n s) (d : KernelView T)
       → get_elem? s.views id ≡ some (Kernel d) → t < n → (w : ℕ) (l : CellView T) (homes : Homes T)
       → length homes ≡ n → ((u : ℕ) → u ≢ t → get_elem? homes u ≡ get_elem? s.homes u) → l.taken ≡ (line d t).taken
-      → Fits w l (k.hand t) (get_elem? homes t)
+      → Fits w l (k.thread_view t) (get_elem? homes t)
       → KeepsRule n record {
         words = set s.words (word_of t) w;
         homes = homes;
@@ -141,17 +144,17 @@ module _ {T : Type 0} where
   -- the conditions of cell t, as the kernel's token sees them
   pub kernel_sees : (n id t : ℕ) (s : St T) (k : KeepsRule n s) (d : KernelView T)
       → get_elem? s.views id ≡ some (Kernel d) → t < n
-      → Fits (get_or s.words (word_of t) 0) (line d t) (k.hand t) (get_elem? s.homes t)
+      → Fits (get_or s.words (word_of t) 0) (line d t) (k.thread_view t) (get_elem? s.homes t)
   kernel_sees n id t s k d at h =
-      subst (λ z. Fits (get_or s.words (word_of t) 0) (line z t) (k.hand t) (get_elem? s.homes t))
+      subst (λ z. Fits (get_or s.words (word_of t) 0) (line z t) (k.thread_view t) (get_elem? s.homes t))
       (sym (k.each_seat id (Kernel d) at).1) (k.each_cell t h).0
 
-  knows_thread : (d : KernelView T) (hand : ℕ → ThreadView T) (t : ℕ) (h' : ThreadView T) (j : ℕ) (v : View T)
-      → j ≢ suc t → Knows d hand j v → Knows d (hand_at hand t h') j v
-  knows_thread d hand t h' j (Kernel e) n k = k
-  knows_thread d hand t h' j (Thread h) n k =
-      (k.0, k.1 ∙ sym (hand_else hand t h' h.thread (λ e. n (k.0 ∙ ap suc e))), k.2)
-  knows_thread d hand t h' j Joined n k = tt
+  knows_thread : (d : KernelView T) (thread_view : ℕ → ThreadView T) (t : ℕ) (h' : ThreadView T) (j : ℕ) (v : View T)
+      → j ≢ suc t → Knows d thread_view j v → Knows d (thread_view_at thread_view t h') j v
+  knows_thread d thread_view t h' j (Kernel e) n k = k
+  knows_thread d thread_view t h' j (Thread h) n k =
+      (k.0, k.1 ∙ sym (other_thread_view thread_view t h' h.thread (λ e. n (k.0 ∙ ap suc e))), k.2)
+  knows_thread d thread_view t h' j Joined n k = tt
 
   -- the token of thread t changes its cell
   pub thread_changes : (n id t : ℕ) (s : St T) (k : KeepsRule n s) (h : ThreadView T)
@@ -167,30 +170,37 @@ module _ {T : Type 0} where
       ap (λ u. (line k.kernel_view u).taken) (sym is) ∙ q.2 in
       record {
         kernel_view = k.kernel_view;
-        hand = hand_at k.hand t h';
+        thread_view = thread_view_at k.thread_view t h';
         words = length-set s.words (word_of t) w ∙ k.words;
         slots = long;
         lines = k.lines;
         kernel = set_else s.views id 0 (Thread h') (λ e. omega (arith, seat)) ∙ k.kernel;
         seats = length-set s.views id (Thread h') ∙ k.seats;
-        unmade = λ u e. (hand_else k.hand t h' u (λ x. omega (arith, k.seats)) ∙ (k.unmade u e).0, (k.unmade u e).1);
-        each_cell = cells_stay n t s.words (set s.words (word_of t) w) (line k.kernel_view) (line k.kernel_view) k.hand
-            (hand_at k.hand t h') s.homes homes (λ u ne. other_word s.words t u w ne) (λ u ne. refl)
-            (λ u ne. hand_else k.hand t h' u ne) others k.each_cell
+        unmade =
+            λ u e. (
+              other_thread_view k.thread_view t h' u (λ x. omega (arith, k.seats))
+                  ∙ (k.unmade u e).0,
+              (k.unmade u e).1,
+            );
+        each_cell =
+            cells_stay n t s.words (set s.words (word_of t) w) (line k.kernel_view) (line k.kernel_view) k.thread_view
+            (thread_view_at k.thread_view t h') s.homes homes (λ u ne. other_word s.words t u w ne) (λ u ne. refl)
+            (λ u ne. other_thread_view k.thread_view t h' u ne) others k.each_cell
             (subst (λ (z : ℕ × ThreadView T). CellOk z.0 (line k.kernel_view t) z.1 (get_elem? homes t))
             (λ i. (
               sym (get_or-set_same s.words (word_of t) w 0 (omega (arith, k.words, near))) i,
-              sym (hand_here k.hand t h' t refl) i,
+              sym (own_thread_view k.thread_view t h' t refl) i,
             ))
             (fits, subst (λ o. Settled o h') (sym open_) tt));
         each_seat =
             λ j v e.
-            ⊎_elim (λ (z : (j ≡ id) × (Thread h' ≡ v)). subst (Knows k.kernel_view (hand_at k.hand t h') j) z.1 (
+            ⊎_elim (λ (z : (j ≡ id)
+            × (Thread h' ≡ v)). subst (Knows k.kernel_view (thread_view_at k.thread_view t h') j) z.1 (
               z.0 ∙ seat ∙ ap suc (sym is'),
-              sym (hand_here k.hand t h' h'.thread is'),
+              sym (own_thread_view k.thread_view t h' h'.thread is'),
               ap (λ u. (line k.kernel_view u).taken) is' ∙ open_,
             ))
-            (λ (z : (j ≢ id) × (get_elem? s.views j ≡ some v)). knows_thread k.kernel_view k.hand t h' j v
+            (λ (z : (j ≢ id) × (get_elem? s.views j ≡ some v)). knows_thread k.kernel_view k.thread_view t h' j v
             (λ x. z.0 (x ∙ sym seat)) (k.each_seat j v z.1)) (at_set s.views id j (Thread h') v e);
       }
 
@@ -200,7 +210,7 @@ module _ {T : Type 0} where
       → Fits (get_or s.words (word_of t) 0) (line k.kernel_view t) h (get_elem? s.homes t)
   thread_sees n id t s k h at is near =
       subst (λ z. Fits (get_or s.words (word_of t) 0) (line k.kernel_view t) z (get_elem? s.homes t))
-      (ap k.hand (sym is) ∙ sym (k.each_seat id (Thread h) at).1) (k.each_cell t near).0
+      (ap k.thread_view (sym is) ∙ sym (k.each_seat id (Thread h) at).1) (k.each_cell t near).0
 
   nothing : (x : T) (o : Option T) → o ≡ None → o ≡ Some x → ⊥
   nothing x o e g = let P : Option T → Type 0 = elim [ None ↦ Unit {0} | Some y ↦ ⊥ ] in subst P (sym e ∙ g) tt
@@ -277,11 +287,11 @@ module _ {T : Type 0} where
   inside d (Some y) = y
 
   -- the completion that the thread is taking out of a full cell
-  in_hand : (h : ThreadView T) (y x : T) (o : maybe.Option (maybe.Option (Option T))) → FitsTake h y o
+  in_thread_view : (h : ThreadView T) (y x : T) (o : maybe.Option (maybe.Option (Option T))) → FitsTake h y o
       → h.taking ≡ Some x → y ≡ x
   unfolding inside
-  in_hand h y x o (inl p) a = absurd (nothing x h.taking p.0 a)
-  in_hand h y x o (inr p) a = ap (inside x) (sym p.0 ∙ a)
+  in_thread_view h y x o (inl p) a = absurd (nothing x h.taking p.0 a)
+  in_thread_view h y x o (inr p) a = ap (inside x) (sym p.0 ∙ a)
 
   pub fits_give : (w : ℕ) (l : CellView T) (h : ThreadView T) (o : maybe.Option (maybe.Option (Option T))) (x : T)
       → Fits w l h o → h.taking ≡ Some x
@@ -289,5 +299,5 @@ module _ {T : Type 0} where
   fits_give zero l h o x f a = absurd (nothing x h.taking f.2 a)
   fits_give (suc zero) l h o x f a = absurd (nothing x h.taking f.1 a)
   fits_give (suc (suc zero)) l h o x f a =
-      (f.0, f.1, refl, f.2.1 ∙ ap (λ y. h.taken ++ y ∷ []) (in_hand h f.2.0 x o f.2.2 a), refl)
+      (f.0, f.1, refl, f.2.1 ∙ ap (λ y. h.taken ++ y ∷ []) (in_thread_view h f.2.0 x o f.2.2 a), refl)
   fits_give (suc (suc (suc w))) l h o x f a = absurd f

@@ -3,10 +3,12 @@ pub use Rattle.atomic_table.proofs.Lists.{at_last, at_longer, at_set, exchanged,
 pub use Rattle.atomic_table.specs.Table.{Act, Allows, Final, Joins, Me, Seen, Splits, State, Valid, carried_after}
 pub use Rattle.atomic_table.specs.Table.{gives, keeps, opening, rest, step, stepped, takes}
 pub use Rattle.qhandoff.specs.Rule.{Fits, FitsPut, FitsTake, KeepsRule, Knows, Settled, Slot, cell_of, idle_line, line}
-pub use Rattle.qhandoff.specs.Rule.{new_hand, with_line, word_of}
+pub use Rattle.qhandoff.specs.Rule.{new_thread_view, with_line, word_of}
 pub use Rattle.qhandoff.specs.Steps.{BeginPutTells, CancelTells, EndPutTells, GiveBackTells, IsBusy, OpenTells}
-pub use Rattle.qhandoff.specs.Steps.{TakeTells, cancelled_kernel_view, kernel_view_in, first_view, hand_in, joined_at}
-pub use Rattle.qhandoff.specs.Steps.{joined_kernel_view, joined_views, next_hand, opened_kernel_view, put_kernel_view}
+pub use Rattle.qhandoff.specs.Steps.{TakeTells, cancelled_kernel_view, kernel_view_in, first_view, thread_view_in}
+pub use Rattle.qhandoff.specs.Steps.{joined_at}
+pub use Rattle.qhandoff.specs.Steps.{joined_kernel_view, joined_views, next_thread_view, opened_kernel_view}
+pub use Rattle.qhandoff.specs.Steps.{put_kernel_view}
 pub use Rattle.qhandoff.specs.Steps.{putting_kernel_view, seated_kernel_view, seats_one_more}
 pub use Rattle.qhandoff.specs.Words.{IsRow, Rises, left_for, one, tagged, taken, thread_id, thread_of, took}
 pub use Rattle.qhandoff.specs.declared.seats.ThreadSeat.{ThreadSeat}

@@ -41,7 +41,7 @@ module _ {T : Type 0} where
   is_next old all xs left s now j e = let j' : Joining old all (left ++ s ∷ []) now =
       subst (λ ys. Joining old all ys now) e j in j'.same (length left) s (at_last left s (length left) refl)
 
-  -- the desk after one more token is joined
+  -- the kernel view after one more token is joined
   pub joining_next : (old : KernelView T) (all xs left : List (ThreadSeat T)) (s : ThreadSeat T)
       (now next : KernelView T) → Joining old all xs now → xs ≡ left ++ s ∷ [] → s.thread ≡ length left
       → length all ≤ length old.lines

@@ -2,7 +2,7 @@
 use Rattle.qhandoff.proofs.Common.{◌≡◌, ℕ, zero, suc, ◌<◌, true, false, List, [], ◌∷◌, ◌++◌, length, set, sym, refl, ap}
 use Rattle.qhandoff.proofs.Common.{◌∙◌, Option, Some, None, get_or-set_other, get_or-set_same, dite, ℕ_discrete, rest}
 use Rattle.qhandoff.proofs.Common.{CellView, KernelView, ThreadView, View, Kernel, Thread, line, with_line, idle_line}
-use Rattle.qhandoff.proofs.Common.{putting_kernel_view, put_kernel_view, kernel_view_in, hand_in}
+use Rattle.qhandoff.proofs.Common.{putting_kernel_view, put_kernel_view, kernel_view_in, thread_view_in}
 use Rattle.atomic_table.specs.declared.shared.Seat.{Seat}
 use Rattle.qhandoff.specs.Seated.{IsKernel, IsThread}
 use Rattle.qhandoff.proofs.Allowed.{Sat}
@@ -37,7 +37,7 @@ module _ {T : Type 0} where
 
   pub thread_rests : (s : Seat (Option T) (View T)) (t : ℕ) (h : ThreadView T) → s.me ≡ (Thread h, [])
       → t < s.table_id.slots → h.thread ≡ t → h.taking ≡ None → IsThread s t
-  thread_rests s t h e near is idle = let same : hand_in s.me.0 ≡ h = ap (λ (m : Sat T). hand_in m.0) e in
+  thread_rests s t h e near is idle = let same : thread_view_in s.me.0 ≡ h = ap (λ (m : Sat T). thread_view_in m.0) e in
       (e ∙ ap (λ z. (Thread z, [])) (sym same), near, ap (λ z. z.thread) same ∙ is, ap (λ z. z.taking) same ∙ idle)
 
   -- after a put, nothing is being put for any thread
@@ -69,19 +69,27 @@ module _ {T : Type 0} where
 
   -- the two steps of a poll
   pub in_poll : (m m1 m2 : Sat T) (h : ThreadView T) (t u : ℕ) (x : T) → m ≡ (Thread h, [])
-      → m1 ≡ (Thread (record (hand_in m.0) { taking = Some x }), (u, Some x) ∷ m.1) → m2 ≡ (m1.0, (t, None) ∷ rest m1.1)
+      → m1 ≡ (Thread (record (thread_view_in m.0) { taking = Some x }), (u, Some x) ∷ m.1) → m2
+      ≡ (m1.0, (t, None) ∷ rest m1.1)
       → m2 ≡ (Thread (record h { taking = Some x }), (t, None) ∷ [])
   in_poll m m1 m2 h t u x e f g = g ∙ ap (λ (z : Sat T). (z.0, (t, None) ∷ rest z.1)) f
-      ∙ ap (λ (z : Sat T). (Thread (record (hand_in z.0) { taking = Some x }), (t, None) ∷ z.1)) e
+      ∙ ap (λ (z : Sat T). (Thread (record (thread_view_in z.0) { taking = Some x }), (t, None) ∷ z.1)) e
 
   pub after_poll : (m2 m3 : Sat T) (h : ThreadView T) (t : ℕ) (x : T)
       → m2 ≡ (Thread (record h { taking = Some x }), (t, None) ∷ [])
-      → ((y : T) → (hand_in m2.0).taking ≡ Some y
-      → m3 ≡ (Thread (record (hand_in m2.0) { taken = (hand_in m2.0).taken ++ y ∷ []; taking = None }), []))
+      → ((y : T) → (thread_view_in m2.0).taking ≡ Some y
+      → m3 ≡ (
+        Thread (record (thread_view_in m2.0) {
+          taken = (thread_view_in m2.0).taken ++ y ∷ [];
+          taking =
+              None;
+        }),
+        [],
+      ))
       → m3 ≡ (Thread (record h { taken = h.taken ++ x ∷ []; taking = None }), [])
-  after_poll m2 m3 h t x e go = go x (ap (λ (z : Sat T). (hand_in z.0).taking) e)
+  after_poll m2 m3 h t x e go = go x (ap (λ (z : Sat T). (thread_view_in z.0).taking) e)
       ∙ ap (λ (z : Sat T). (
-        Thread (record (hand_in z.0) { taken = (hand_in z.0).taken ++ x ∷ []; taking = None }),
+        Thread (record (thread_view_in z.0) { taken = (thread_view_in z.0).taken ++ x ∷ []; taking = None }),
         [],
       )) e
 
@@ -91,7 +99,7 @@ module _ {T : Type 0} where
 
   -- the completion that a poll took out of the slot
   pub got : (m m1 : Sat T) (h : ThreadView T) (t : ℕ) (x : T) (o : Option T)
-      → m1 ≡ (Thread (record (hand_in m.0) { taking = Some x }), (t, Some x) ∷ m.1) → m1.1 ≡ (t, o) ∷ rest m1.1
+      → m1 ≡ (Thread (record (thread_view_in m.0) { taking = Some x }), (t, Some x) ∷ m.1) → m1.1 ≡ (t, o) ∷ rest m1.1
       → o ≡ Some x
   unfolding held
   got m m1 h t x o e f = sym (ap (held x) f) ∙ ap (λ (z : Sat T). held x z.1) e

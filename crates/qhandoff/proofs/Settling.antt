@@ -17,12 +17,13 @@ module _ {T : Type 0} where
   refits (suc (suc zero)) l h o x f = f
   refits (suc (suc (suc w))) l h o x f = f
 
-  knows_joined : (d : KernelView T) (t : ℕ) (l : CellView T) (hand : ℕ → ThreadView T) (j : ℕ) (v : View T) → j ≢ 0
-      → j ≢ suc t → Knows d hand j v → Knows (with_line d t l) hand j v
-  knows_joined d t l hand j (Kernel e) n m q = absurd (n q.0)
-  knows_joined d t l hand j (Thread h) n m q =
+  knows_joined : (d : KernelView T) (t : ℕ) (l : CellView T) (thread_view : ℕ → ThreadView T) (j : ℕ) (v : View T)
+      → j ≢ 0
+      → j ≢ suc t → Knows d thread_view j v → Knows (with_line d t l) thread_view j v
+  knows_joined d t l thread_view j (Kernel e) n m q = absurd (n q.0)
+  knows_joined d t l thread_view j (Thread h) n m q =
       (q.0, q.1, ap (λ z. z.taken) (line_else d t l h.thread (λ e. m (q.0 ∙ ap suc e))) ∙ q.2)
-  knows_joined d t l hand j Joined n m q = tt
+  knows_joined d t l thread_view j Joined n m q = tt
 
   joins_step : (n other : ℕ) (s : St T) (k : KeepsRule n s) (h : ThreadView T) → h.thread < n → h.taking ≡ None
       → get_elem? s.views other ≡ some (Thread h)
@@ -42,7 +43,7 @@ module _ {T : Type 0} where
       let long : t < length k.kernel_view.lines = omega (arith, k.lines) in
       record {
         kernel_view = d';
-        hand = k.hand;
+        thread_view = k.thread_view;
         words = k.words;
         slots = k.slots;
         lines = length-set k.kernel_view.lines t l' ∙ k.lines;
@@ -54,20 +55,21 @@ module _ {T : Type 0} where
               (k.unmade u e).0,
               ap (λ z. z.taken) (line_else k.kernel_view t l' u (λ x. omega (arith, q.0, k.seats))) ∙ (k.unmade u e).1,
             );
-        each_cell = cells_stay n t s.words s.words (line k.kernel_view) (line d') k.hand k.hand s.homes s.homes
+        each_cell =
+            cells_stay n t s.words s.words (line k.kernel_view) (line d') k.thread_view k.thread_view s.homes s.homes
             (λ u ne. refl) (λ u ne. line_else k.kernel_view t l' u ne) (λ u ne. refl) (λ u ne. refl) k.each_cell
-            (subst (λ z. CellOk (get_or s.words (word_of t) 0) z (k.hand t) (get_elem? s.homes t))
+            (subst (λ z. CellOk (get_or s.words (word_of t) 0) z (k.thread_view t) (get_elem? s.homes t))
             (sym (line_here k.kernel_view t l' t refl long)) (
-              refits _ l (k.hand t) _ (Some h.taken) (k.each_cell t near).0,
+              refits _ l (k.thread_view t) _ (Some h.taken) (k.each_cell t near).0,
               (
                 ap (λ z. z.taken) q.1,
                 ap (λ z. z.taking) (sym q.1) ∙ idle,
               ),
             ));
-        each_seat = λ j v e. ⊎_elim (λ (z : (j ≡ other) × (Joined ≡ v)). subst (Knows d' k.hand j) z.1 tt)
+        each_seat = λ j v e. ⊎_elim (λ (z : (j ≡ other) × (Joined ≡ v)). subst (Knows d' k.thread_view j) z.1 tt)
             (λ (z : (j ≢ other) × (get_elem? vs j ≡ some v)). ⊎_elim
-            (λ (y : (j ≡ 0) × (Kernel d' ≡ v)). subst (Knows d' k.hand j) y.1 (y.0, refl))
-            (λ (y : (j ≢ 0) × (get_elem? s.views j ≡ some v)). knows_joined k.kernel_view t l' k.hand j v y.0
+            (λ (y : (j ≡ 0) × (Kernel d' ≡ v)). subst (Knows d' k.thread_view j) y.1 (y.0, refl))
+            (λ (y : (j ≢ 0) × (get_elem? s.views j ≡ some v)). knows_joined k.kernel_view t l' k.thread_view j v y.0
             (λ x. z.0 (x ∙ sym q.0)) (k.each_seat j v y.1)) (at_set s.views 0 j (Kernel d') v z.1))
             (at_set vs other j Joined v e);
       }
@@ -118,9 +120,9 @@ module _ {T : Type 0} where
       let s : St T = fin.0 in
       let k : KeepsRule n s = fin.1.0 in
       let q = k.each_seat id (Kernel d) (fin.1.1 ∙ ap (λ (z : Sat T). some z.0) is) in
-      let cell : CellOk (get_or s.words (word_of t) 0) (line d t) (k.hand t) (get_elem? s.homes t) =
-      subst (λ z. CellOk (get_or s.words (word_of t) 0) (line z t) (k.hand t) (get_elem? s.homes t)) (sym q.1)
+      let cell : CellOk (get_or s.words (word_of t) 0) (line d t) (k.thread_view t) (get_elem? s.homes t) =
+      subst (λ z. CellOk (get_or s.words (word_of t) 0) (line z t) (k.thread_view t) (get_elem? s.homes t)) (sym q.1)
       (k.each_cell t near) in
-      let now = settled (line d t).taken (k.hand t) ts was cell.1 in
-      closes (get_or s.words (word_of t) 0) (line d t) (k.hand t) (get_elem? s.homes t)
+      let now = settled (line d t).taken (k.thread_view t) ts was cell.1 in
+      closes (get_or s.words (word_of t) 0) (line d t) (k.thread_view t) (get_elem? s.homes t)
       (get_elem? xs t) ts cell.0 quiet now.0 now.1 (λ y e. fin.4 t y e)

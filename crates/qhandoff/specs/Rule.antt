@@ -30,15 +30,15 @@ module _ {T : Type 0} where
   abbrev pub idle_line : CellView T
   idle_line = record { opened = false; putting = false; put = []; taken = None }
 
-  -- the hand of a thread that took nothing
-  abbrev pub new_hand : ℕ → ThreadView T
-  new_hand t = record { thread = t; taken = []; taking = None }
+  -- the thread view of a thread that took nothing
+  abbrev pub new_thread_view : ℕ → ThreadView T
+  new_thread_view t = record { thread = t; taken = []; taking = None }
 
   -- the knowledge of the kernel's token about thread t
   abbrev pub line : KernelView T → ℕ → CellView T
   line d t = slice_index_or d.lines t idle_line
 
-  -- the desk with another line for thread t
+  -- the kernel view with another line for thread t
   abbrev pub with_line : KernelView T → ℕ → CellView T → KernelView T
   with_line d t l = record d { lines = slice_set d.lines t l }
 
@@ -84,26 +84,27 @@ module _ {T : Type 0} where
   Settled None h = Unit {0}
   Settled (Some ts) h = (ts ≡ h.taken) × (h.taking ≡ None)
 
-  -- token 0 is the kernel's and knows the desk; token t + 1 is thread t's and knows its hand until it is
-  -- joined
+  -- token 0 is the kernel's and knows the kernel view; token t + 1 is thread t's and knows its thread view
+  -- until it is joined
   abbrev pub Knows : KernelView T → (ℕ → ThreadView T) → ℕ → View T → Type 0
-  Knows kernel_view hand j (Kernel d) = (j ≡ 0) × (d ≡ kernel_view)
-  Knows kernel_view hand j (Thread h) =
-      (j ≡ suc h.thread) × (h ≡ hand h.thread) × ((line kernel_view h.thread).taken ≡ None)
-  Knows kernel_view hand j Joined = Unit {0}
+  Knows kernel_view thread_view j (Kernel d) = (j ≡ 0) × (d ≡ kernel_view)
+  Knows kernel_view thread_view j (Thread h) =
+      (j ≡ suc h.thread) × (h ≡ thread_view h.thread) × ((line kernel_view h.thread).taken ≡ None)
+  Knows kernel_view thread_view j Joined = Unit {0}
 
-  -- there are n cells, a desk, and a hand for each thread. The words, the slots and all tokens agree with
-  -- them. A thread whose token isn't made yet took nothing.
+  -- there are n cells, a kernel view, and a thread view for each thread. The words, the slots and all tokens
+  -- agree with them. A thread whose token isn't made yet took nothing.
   pub record KeepsRule (n : ℕ) (s : State (Option T) (View T)) : Type 0 where
     pub kernel_view : KernelView T
-    pub hand : ℕ → ThreadView T
+    pub thread_view : ℕ → ThreadView T
     pub words : length s.words ≡ n * 8
     pub slots : length s.homes ≡ n
     pub lines : length kernel_view.lines ≡ n
     pub kernel : get_elem? s.views 0 ≡ some (Kernel kernel_view)
     pub seats : length s.views ≡ suc kernel_view.seats
-    pub unmade : (t : ℕ) → kernel_view.seats ≤ t → (hand t ≡ new_hand t) × ((line kernel_view t).taken ≡ None)
+    pub unmade : (t : ℕ) → kernel_view.seats ≤ t → (thread_view t ≡ new_thread_view t)
+        × ((line kernel_view t).taken ≡ None)
     pub each_cell : (t : ℕ) → t < n
-        → Fits (slice_index s.words (word_of t)) (line kernel_view t) (hand t) (get_elem? s.homes t)
-        × Settled (line kernel_view t).taken (hand t)
-    pub each_seat : (j : ℕ) (v : View T) → get_elem? s.views j ≡ some v → Knows kernel_view hand j v
+        → Fits (slice_index s.words (word_of t)) (line kernel_view t) (thread_view t) (get_elem? s.homes t)
+        × Settled (line kernel_view t).taken (thread_view t)
+    pub each_seat : (j : ℕ) (v : View T) → get_elem? s.views j ≡ some v → Knows kernel_view thread_view j v

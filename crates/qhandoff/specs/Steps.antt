@@ -9,7 +9,7 @@ use Rattle.qhandoff.specs.declared.view.KernelView.{KernelView}
 use Rattle.qhandoff.specs.declared.view.ThreadView.{ThreadView}
 use Rattle.qhandoff.specs.declared.view.View.{View}
 use Rattle.qhandoff.specs.declared.view.View.TheVariants.{Kernel, Thread, Joined}
-use Rattle.qhandoff.specs.Rule.{cell_of, idle_line, new_hand, line, with_line}
+use Rattle.qhandoff.specs.Rule.{cell_of, idle_line, new_thread_view, line, with_line}
 
 -- a relation between the step, the token before, the value found in the word, and the token after
 abbrev pub Tells : Type 0 → Type 1
@@ -30,52 +30,52 @@ module _ {T : Type 0} where
   seats_one_more v = v
 
   -- the knowledge of the thread token that is split off
-  abbrev pub next_hand : View T → View T
-  next_hand (Kernel d) = Thread (new_hand d.seats)
-  next_hand v = Joined
+  abbrev pub next_thread_view : View T → View T
+  next_thread_view (Kernel d) = Thread (new_thread_view d.seats)
+  next_thread_view v = Joined
 
-  -- the desk in the view of the kernel's token; an empty desk for other views
+  -- the kernel view in the view of the kernel's token; an empty kernel view for other views
   abbrev pub kernel_view_in : View T → KernelView T
   kernel_view_in (Kernel d) = d
   kernel_view_in v = seated_kernel_view 0 0
 
-  -- the hand in the view of a thread's token; a new hand for other views
-  abbrev pub hand_in : View T → ThreadView T
-  hand_in (Thread h) = h
-  hand_in v = new_hand 0
+  -- the thread view in the view of a thread's token; a new thread view for other views
+  abbrev pub thread_view_in : View T → ThreadView T
+  thread_view_in (Thread h) = h
+  thread_view_in v = new_thread_view 0
 
-  -- the desk after thread t's cell is opened
+  -- the kernel view after thread t's cell is opened
   abbrev pub opened_kernel_view : KernelView T → ℕ → KernelView T
   opened_kernel_view d t = with_line d t (record (line d t) { opened = true })
 
-  -- the desk after the opening of thread t's cell is cancelled
+  -- the kernel view after the opening of thread t's cell is cancelled
   abbrev pub cancelled_kernel_view : KernelView T → ℕ → KernelView T
   cancelled_kernel_view d t = with_line d t (record (line d t) { opened = false })
 
-  -- the desk while a completion is being put for thread t
+  -- the kernel view while a completion is being put for thread t
   abbrev pub putting_kernel_view : KernelView T → ℕ → KernelView T
   putting_kernel_view d t = with_line d t (record (line d t) { putting = true })
 
-  -- the desk after x was put for thread t
+  -- the kernel view after x was put for thread t
   abbrev pub put_kernel_view : KernelView T → ℕ → T → KernelView T
   put_kernel_view d t x = with_line d t
       (record (line d t) { opened = false; putting = false; put = (line d t).put ++ x ∷ [] })
 
-  -- the desk after the token of thread t, which took ts, is joined
+  -- the kernel view after the token of thread t, which took ts, is joined
   abbrev pub joined_at : KernelView T → ℕ → List T → KernelView T
   joined_at d t ts = with_line d t (record (line d t) { taken = Some ts })
 
-  -- the desk after the token with hand h is joined
+  -- the kernel view after the token with thread view h is joined
   abbrev pub joined_kernel_view : KernelView T → ThreadView T → KernelView T
   joined_kernel_view d h = joined_at d h.thread h.taken
 
-  -- the hand of a thread that is taking x
-  abbrev pub taking_hand : ThreadView T → T → ThreadView T
-  taking_hand h x = record h { taking = Some x }
+  -- the thread view of a thread that is taking x
+  abbrev pub taking_thread_view : ThreadView T → T → ThreadView T
+  taking_thread_view h x = record h { taking = Some x }
 
-  -- the hand of a thread that took x
-  abbrev pub taken_hand : ThreadView T → T → ThreadView T
-  taken_hand h x = record h { taken = h.taken ++ x ∷ []; taking = None }
+  -- the thread view of a thread that took x
+  abbrev pub taken_thread_view : ThreadView T → T → ThreadView T
+  taken_thread_view h x = record h { taken = h.taken ++ x ∷ []; taking = None }
 
   -- as far as the kernel's token knows, the cell may not be idle: it is opened, or something was put
   abbrev pub IsBusy : CellView T → Type 0
@@ -108,14 +108,15 @@ module _ {T : Type 0} where
   -- changes
   abbrev pub TakeTells : Tells T
   TakeTells st m r m' = (r ≡ 2
-      → (x : T) × (m' ≡ (Thread (taking_hand (hand_in m.0) x), (cell_of st.word, Some x) ∷ m.1)))
+      → (x : T)
+      × (m' ≡ (Thread (taking_thread_view (thread_view_in m.0) x), (cell_of st.word, Some x) ∷ m.1)))
       × (¬ (r ≡ 2) → m' ≡ m)
 
   -- give back, by the thread's token, from 2 to 0: it has taken the value that it was taking, and the slot is
   -- released
   abbrev pub GiveBackTells : Tells T
-  GiveBackTells st m r m' = (x : T) → (hand_in m.0).taking ≡ Some x
-      → m' ≡ (Thread (taken_hand (hand_in m.0) x), [])
+  GiveBackTells st m r m' = (x : T) → (thread_view_in m.0).taking ≡ Some x
+      → m' ≡ (Thread (taken_thread_view (thread_view_in m.0) x), [])
 
   -- join, by the kernel's token: the thread's line now has the list that its token took
   abbrev pub joined_views : View T → View T → View T

@@ -8,7 +8,7 @@ use Rattle.qhandoff.specs.declared.seats.KernelSeat.{KernelSeat}
 use Rattle.qhandoff.specs.declared.seats.ThreadSeat.{ThreadSeat}
 use Rattle.qhandoff.specs.declared.cells.Cells.{Cells}
 use Rattle.atomic_table.specs.Seated.{TableId}
-use Rattle.qhandoff.specs.Steps.{kernel_view_in, hand_in}
+use Rattle.qhandoff.specs.Steps.{kernel_view_in, thread_view_in}
 
 module _ {T : Type 0} where
   -- the identity of these cells
@@ -45,7 +45,7 @@ module _ {T : Type 0} where
 
   -- the completions that the thread took, in order
   abbrev pub taken : ThreadSeat T → List T
-  taken s = (hand_in s.seat.me.0).taken
+  taken s = (thread_view_in s.seat.me.0).taken
 
   -- the tokens belong to these cells, and the token at index k empties cell k
   abbrev pub IsRow : TableId → List (ThreadSeat T) → Type 0

@@ -2,7 +2,7 @@
 //! define them.
 
 ghost use Rattle.qhandoff.specs.Rule.{KeepsRule};
-ghost use Rattle.qhandoff.specs.Steps.{first_view, seats_one_more, next_hand, joined_views, OpenTells};
+ghost use Rattle.qhandoff.specs.Steps.{first_view, seats_one_more, next_thread_view, joined_views, OpenTells};
 ghost use Rattle.qhandoff.specs.Steps.{CancelTells, BeginPutTells, EndPutTells, TakeTells, GiveBackTells};
 ghost use Rattle.qhandoff.specs.declared.view.View.TheVariants.{Joined};
 
@@ -24,7 +24,7 @@ pub struct SeatOne;
 impl<T> Split<View<T>> for SeatOne {
     ghost left = { seats_one_more };
 
-    ghost right = { next_hand };
+    ghost right = { next_thread_view };
 }
 
 /// Joins a thread's token to the kernel's token, as the cells are closed. The kernel's token then knows the

@@ -3,7 +3,7 @@ use Rattle.qkernel.proofs.Common.{◌≡◌, ℕ, ◌+◌, ◌<◌, List, [], �
 use Rattle.qkernel.proofs.Common.{filter_map, cons_option, AllByRecursion, option_map, option_to_list, option_map_or}
 use Rattle.qkernel.proofs.Common.{take_at_read, filter_map-append, blocked_thread, state_in, facts_of, Trace, own_open}
 use Rattle.qkernel.proofs.Common.{Ready, number_of, Option, None, Some, IsRoster, Member, threads_of, Facts}
-use Rattle.qkernel.proofs.Common.{filter_map_same, StandsAt, State, facts_in, open_in, members_of, OpenCall, Thread}
+use Rattle.qkernel.proofs.Common.{filter_map_same, MatchesAt, State, facts_in, open_in, members_of, OpenCall, Thread}
 use Rattle.qrules.proofs.Words.Blocked.{blocked_threads_in}
 use Rattle.qkernel.specs.Blocked.{blocked_threads}
 use Rattle.qmodel.specs.declared.open_call.Blocked.{Blocked}
@@ -48,7 +48,7 @@ module _ (f : Facts) where
   all_told = filter_map_same _ _ (threads_of f.roster) told_same
 
 pub blocked_now : (roster : List Member) (s : State) (past : Trace) → IsRoster (members_of s.threads)
-    → StandsAt roster s past
+    → MatchesAt roster s past
     → blocked_by s.threads ≡ blocked_threads (facts_of roster past)
-blocked_now roster s past rises stands = same_told (open_in s.threads) s.threads (own_open s.threads rises)
-    ∙ all_told (facts_in s) ∙ ap blocked_threads stands
+blocked_now roster s past rises matches = same_told (open_in s.threads) s.threads (own_open s.threads rises)
+    ∙ all_told (facts_in s) ∙ ap blocked_threads matches

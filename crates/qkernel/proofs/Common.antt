@@ -8,7 +8,7 @@ pub use Rattle.qbase.specs.declared.state.ThreadState.TheVariants.{Ready}
 pub use Rattle.qkernel.specs.EventLog.{Logged, with_next}
 pub use Rattle.qkernel.specs.Kernel.{IsSound, State}
 pub use Rattle.qkernel.specs.Private.Steps.{Step, Steps, facts_in}
-pub use Rattle.qkernel.specs.Stands.{AnswersAtTraces, InfoAtTraces, LeavesIfRefused, StandsAt}
+pub use Rattle.qkernel.specs.Matching.{AnswersAtTraces, InfoAtTraces, LeavesIfRefused, MatchesAt}
 pub use Rattle.qmodel.specs.Trace.{Event, OpenChannel, SentItem, Trace}
 pub use Rattle.qmodel.specs.declared.call.Call.{Call}
 pub use Rattle.qmodel.specs.declared.call.Call.TheVariants.{ChannelCreate, ChannelDestroy, ConnectAttach, ConnectDetach}
@@ -61,8 +61,8 @@ pub use Rattle.qkernel_state.specs.Cancelling.{is_cancelled_by}
 pub use Rattle.qkernel_state.specs.Channel.{ClosesIn, SetsItems, ids_of, is_of, own_channel_in, route_in}
 pub use Rattle.qkernel_state.specs.Completions.{with_completion_if, with_completion_in_place}
 pub use Rattle.qkernel_state.specs.Held.{guarded_message_in, is_held_in, is_held_of}
-pub use Rattle.qkernel_state.specs.Kept.{channel_in, items_waiting_on, members_of, open_channel_of, pending_in}
-pub use Rattle.qkernel_state.specs.Kept.{thread_priority}
+pub use Rattle.qkernel_state.specs.Contents.{channel_in, items_waiting_on, members_of, open_channel_of, pending_in}
+pub use Rattle.qkernel_state.specs.Contents.{thread_priority}
 pub use Rattle.qkernel_state.specs.Pulses.{IsLeft, IsMet, IsSent, IsSentIfDue, IsTurnedAway, has_room}
 pub use Rattle.qkernel_state.specs.Thread.{ChangesOpen, ChangesSender, HandsOver, SetsOpen, SetsPriority, Wakes}
 pub use Rattle.qkernel_state.specs.Thread.{blocked_count, message_from, newest_in, open_in, ready_thread, sender_in}

@@ -6,7 +6,7 @@ use Rattle.std.proofs.lemmas.List.{length-map}
 use Rattle.qkernel.specs.Kernel.{facts_in}
 use Rattle.qkernel_state.specs.Channel.{ids_of}
 use Rattle.qkernel_state.specs.Copies.{channel_told, entry_told}
-use Rattle.qkernel_state.specs.Kept.{channel_in, items_waiting_on, open_channel_of, pending_in, thread_priority}
+use Rattle.qkernel_state.specs.Contents.{channel_in, items_waiting_on, open_channel_of, pending_in, thread_priority}
 use Rattle.qkernel_state.specs.declared.channel.Channel.{Channel}
 
 -- the facts about the channels

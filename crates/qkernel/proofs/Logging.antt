@@ -3,7 +3,7 @@ use Rattle.qkernel.proofs.Common.{◌≡◌, ℕ, ◌-◌, ◌≤◌, List, [], 
 use Rattle.qkernel.proofs.Common.{arith, slice_range, common_steps, Completion}
 use Rattle.std.proofs.lemmas.List.{append-nil, drop-append-le, take-append-drop}
 use Rattle.qkernel.specs.declared.trace.Entry.{Entry}
-use Rattle.qkernel.specs.Kept.{entry_call, events_of, logged_by, AllWithin, IsKept}
+use Rattle.qkernel.specs.LoggedEvents.{entry_call, events_of, logged_by, AllWithin, IsKept}
 
 -- ---- more completions
 

@@ -7,7 +7,7 @@ use Rattle.std.proofs.lemmas.List.{append-nil, reverse-append}
 use Rattle.qkernel.specs.Run.{RunsAtTraces, AllKnown, Headline}
 use Rattle.qrules.specs.Trace.{followed_by}
 use Rattle.qrules.proofs.Traces.OnlyRun.{only_run}
-use Rattle.qkernel.proofs.Traces.{followed_push, properties_of, stands_roster}
+use Rattle.qkernel.proofs.Traces.{followed_push, properties_of, matches_roster}
 
 -- ---- a list of events
 
@@ -23,7 +23,7 @@ runs_more old mid new events e run known step = λ roster past l st.
     let now = run roster past l st in
     let next = step roster (followed_by past events) now.0 now.1 in
     let among : is_some (member_at roster e.thread) ≡ true =
-    subst (λ r. is_some (member_at r e.thread) ≡ true) (stands_roster roster mid (followed_by past events) now.1)
+    subst (λ r. is_some (member_at r e.thread) ≡ true) (matches_roster roster mid (followed_by past events) now.1)
     known in
     rw (followed_push past events e) ((now.0, (among, next.0)), next.1)
 
@@ -123,7 +123,7 @@ pub headline_of : (old new : State) (first : ℕ) (events : List Event) → IsRo
     → first ≡ old.made + 1 → RunsAtTraces old events new → Headline old (record { first = first; events = events }) new
 headline_of old new first events rises is run = λ roster past l st.
     let now = run roster past l st in
-    let rising : IsRoster roster = subst IsRoster (stands_roster roster old past st) rises in
+    let rising : IsRoster roster = subst IsRoster (matches_roster roster old past st) rises in
     let trace : Trace = followed_by past events in
     record {
       rising = rising;
@@ -131,7 +131,7 @@ headline_of old new first events rises is run = λ roster past l st.
       lawful = now.0;
       properties = properties_of roster trace now.0 rising;
       only = only_run roster past events now.0;
-      stands = now.1;
+      matches = now.1;
     }
 
 pub popped : {X : Type 0} (old new : List X) (x : X) → old ≡ new ++ x ∷ [] → reverse old ≡ x ∷ reverse new

@@ -1,7 +1,7 @@
 -- A step of the kernel's content is a step from each history that the kernel matches.
 use Rattle.qkernel.proofs.Common.{◌≡◌, ℕ, ◌+◌, ◌≤◌, List, [], ◌∷◌, map, cond, eqb, length, refl, ap, sym, subst, ◌∙◌}
 use Rattle.qkernel.proofs.Common.{arith, Bool, true, false, inl, inr, eqb-false, true≢false, Answers, Outcome}
-use Rattle.qkernel.proofs.Common.{completion_to, is_failure, priority_in, StandsAt, AnswersAtTraces, LeavesIfRefused}
+use Rattle.qkernel.proofs.Common.{completion_to, is_failure, priority_in, MatchesAt, AnswersAtTraces, LeavesIfRefused}
 use Rattle.qkernel.proofs.Common.{Step, Steps, facts_in, Follows, open_in, ready_thread, all_filter_map}
 use Rattle.qkernel.proofs.Common.{completion_names, laws_of, None, Some, is_some, AllByRecursion, filter_map}
 use Rattle.qkernel.proofs.Common.{length-map, Errno, member_at, IsRoster, Member, Call, Completion, refusal_completion}
@@ -19,9 +19,9 @@ answers_of false f t c X a = inr a
 pub step_at_traces : (old : State) (t : ℕ) (c : Call) (X : List Completion) (new : State)
     → IsRoster (members_of old.threads) → is_some (member_at (members_of old.threads) t) ≡ true → Steps old t c X new
     → AnswersAtTraces old t c X new
-step_at_traces old t c X new rises known step roster past lawful stands =
+step_at_traces old t c X new rises known step roster past lawful matches =
     let accept = step.0 in
-    let same : facts_in old ≡ facts_of roster past = stands in
+    let same : facts_in old ≡ facts_of roster past = matches in
     let roster_is : members_of old.threads ≡ roster = ap (λ f. f.roster) same in
     let outcome : Outcome accept (facts_of roster past) t c X =
     subst (λ f. Outcome accept f t c X) same step.1.answer in
@@ -106,10 +106,10 @@ sound_new roster few r =
       items = λ h. tt;
     }
 
-pub stands_new : (roster : List Member) → IsRoster roster
-    → StandsAt roster
+pub matches_new : (roster : List Member) → IsRoster roster
+    → MatchesAt roster
     (record { made = 0; down = false; threads = map ready_thread roster; channels = []; connections = [] }) []
-stands_new roster rises =
+matches_new roster rises =
     let s : State =
     record { made = 0; down = false; threads = map ready_thread roster; channels = []; connections = [] } in
     one_facts (facts_in s) (facts_of roster []) (ready_members roster) refl refl (λ h. refl) refl (λ k. refl) refl

@@ -1,6 +1,6 @@
 -- Statements of the rules about a history and a kernel that matches it, in the terms of the laws of `qmodel`.
 use Rattle.qkernel.proofs.Common.{◌≡◌, ◌+◌, ℕ, List, [], ◌∷◌, ◌++◌, arith, length, refl, ap, open_call, is_blocked}
-use Rattle.qkernel.proofs.Common.{facts_of, IsLawful, is_some, IsRoster, Member, members_of, State, StandsAt}
+use Rattle.qkernel.proofs.Common.{facts_of, IsLawful, is_some, IsRoster, Member, members_of, State, MatchesAt}
 use Rattle.qrules.proofs.Traces.Properties.All.{has_properties}
 use Rattle.qrules.specs.Past.{was_done}
 use Rattle.qrules.specs.Properties.{HasProperties}
@@ -29,12 +29,12 @@ followed_length past (e ∷ events) =
 
 -- ---- a kernel that matches it
 
-module _ (roster : List Member) (s : State) (past : Trace) (stands : StandsAt roster s past) where
-  pub stands_roster : members_of s.threads ≡ roster
-  stands_roster = ap (λ f. f.roster) stands
+module _ (roster : List Member) (s : State) (past : Trace) (matches : MatchesAt roster s past) where
+  pub matches_roster : members_of s.threads ≡ roster
+  matches_roster = ap (λ f. f.roster) matches
 
-  pub stands_made : s.made ≡ length past
-  stands_made = let number : s.made + 1 ≡ length past + 1 = ap (λ f. f.number) stands in omega arith
+  pub matches_made : s.made ≡ length past
+  matches_made = let number : s.made + 1 ≡ length past + 1 = ap (λ f. f.number) matches in omega arith
 
-  pub stands_down : s.down ≡ was_done (λ e. e.shuts_down) past
-  stands_down = ap (λ f. f.down) stands
+  pub matches_down : s.down ≡ was_done (λ e. e.shuts_down) past
+  matches_down = ap (λ f. f.down) matches

@@ -4,8 +4,8 @@ use Rattle.qmodel.specs.declared.call.Call.{Call}
 use Rattle.qmodel.specs.declared.call.Completion.{Completion}
 use Rattle.qmodel.specs.Trace.{Event}
 
--- events has the oldest event first, and noted the next call first, each call with its thread. endings are
--- the completions of the next call. The rooms are the numbers of further calls and completions for which
+-- events has the oldest event first, and noted the next call first, each call with its thread. completions
+-- are the completions of the next call. The rooms are the numbers of further calls and completions for which
 -- there is room.
 pub record Logged : Type 0 where
   pub events : List Event

@@ -6,7 +6,7 @@ use Rattle.qrules.specs.Facts.{Facts}
 use Rattle.qtables.specs.Entries.{entry_at, IsRising}
 use Rattle.qtables.specs.Members.{IsRoster}
 use Rattle.qkernel_state.specs.Channel.{ids_of}
-use Rattle.qkernel_state.specs.Kept.{channel_in, pending_in, thread_priority, members_of}
+use Rattle.qkernel_state.specs.Contents.{channel_in, pending_in, thread_priority, members_of}
 use Rattle.qkernel_state.specs.Thread.{open_in}
 use Rattle.qkernel_state.specs.declared.channel.Channel.{Channel}
 use Rattle.qkernel_state.specs.declared.thread.Thread.{Thread}

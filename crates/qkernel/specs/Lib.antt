@@ -1,8 +1,8 @@
+pub mod Blocked
 pub mod EventLog
-pub mod Kept
 pub mod Kernel
 pub mod LentCall
-pub mod Stands
-pub mod Run
-pub mod Blocked
+pub mod LoggedEvents
+pub mod Matching
 pub mod Private
+pub mod Run

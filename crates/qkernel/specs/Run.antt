@@ -8,9 +8,9 @@ use Rattle.qmodel.specs.Trace.{Run}
 use Rattle.qrules.specs.Lawful.{IsLawful, IsOnlyRun}
 use Rattle.qrules.specs.Properties.{HasProperties}
 use Rattle.qrules.specs.Trace.{followed_by, Event, ThreadNo, Trace}
-use Rattle.qkernel_state.specs.Kept.{members_of}
+use Rattle.qkernel_state.specs.Contents.{members_of}
 use Rattle.qkernel.specs.Kernel.{State}
-use Rattle.qkernel.specs.Stands.{StandsAt}
+use Rattle.qkernel.specs.Matching.{MatchesAt}
 
 -- the thread of each of these calls is in the roster
 abbrev pub AllKnown : List Member → List (ThreadNo × Call) → Type 0
@@ -20,8 +20,8 @@ AllKnown roster calls = AllByRecursion (λ p. is_some (member_at roster p.0) ≡
 -- kernel now matches it
 abbrev pub RunsAtTraces : State → List Event → State → Type 0
 RunsAtTraces old events new =
-    (roster : List Member) (past : Trace) → IsLawful roster past → StandsAt roster old past
-    → IsLawful roster (followed_by past events) × StandsAt roster new (followed_by past events)
+    (roster : List Member) (past : Trace) → IsLawful roster past → MatchesAt roster old past
+    → IsLawful roster (followed_by past events) × MatchesAt roster new (followed_by past events)
 
 -- the guarantees after a run that began at a valid history. The roster's threads are in ascending order, as
 -- the laws of valid histories require.
@@ -31,12 +31,12 @@ pub record IsWellRun (roster : List Member) (past : Trace) (run : Run) (new : St
   pub lawful : IsLawful roster (followed_by past run.events)
   pub properties : HasProperties roster (followed_by past run.events)
   pub only : IsOnlyRun roster past run.events
-  pub stands : StandsAt roster new (followed_by past run.events)
+  pub matches : MatchesAt roster new (followed_by past run.events)
 
 -- the headline: the guarantees hold for every valid history that the kernel matched before the run
 abbrev pub Headline : State → Run → State → Type 0
 Headline old run new = (roster : List Member) (past : Trace) → IsLawful roster past
-    → StandsAt roster old past → IsWellRun roster past run new
+    → MatchesAt roster old past → IsWellRun roster past run new
 
 -- the error of a run that isn't made: NoThread if a thread isn't in the roster, otherwise Exhausted if the
 -- kernel can't number the calls, and otherwise NoMemory

@@ -36,7 +36,7 @@ impl Model for EventLog {
 
     ghost Value = { Logged };
 
-    ghost use Rattle.qkernel.specs.Kept.{logged_by, IsKept};
+    ghost use Rattle.qkernel.specs.LoggedEvents.{logged_by, IsKept};
 
     ghost view = { λ l. (
         logged_by l.entries.items l.completions.items l.made l.start

@@ -5,7 +5,7 @@ ghost use Rattle.std.specs.Prelude.{false, IsTrue, if◌then◌else◌, IfOk, If
 ghost use Rattle.qtables.specs.Members.{member_at};
 ghost use Rattle.qkernel_state.specs.Thread.{open_in, blocked_count};
 ghost use Rattle.qkernel_state.specs.Threads.{IsSeatIn};
-ghost use Rattle.qkernel_state.specs.Kept.{members_of};
+ghost use Rattle.qkernel_state.specs.Contents.{members_of};
 
 mod blocked;
 mod call_context;
@@ -85,7 +85,7 @@ impl Model for Kernel {
 
 impl Kernel {
     ghost use Rattle.qkernel.specs.Private.Steps.{Steps};
-    ghost use Rattle.qkernel.specs.Stands.{StandsAt, AnswersAtTraces, DispatchError, LeavesIfRefused};
+    ghost use Rattle.qkernel.specs.Matching.{MatchesAt, AnswersAtTraces, DispatchError, LeavesIfRefused};
     ghost use Rattle.qkernel.specs.Kernel.{IsSound};
     ghost use Rattle.qkernel.specs.Private.Caller.{IsCallerIn, MayCall, MakesOrRefuses};
 
@@ -93,7 +93,7 @@ impl Kernel {
     /// Takes the memory for thread records and open calls here. The only error is `NoMemory`.
     /// `first_message.rt` of `crates/balsaeuchre_examples` begins with it.
     pub fn new(alloc: Global, roster: &Roster) -> Result<Kernel, Errno>
-        ensures stands { IfOk result (λ kernel. StandsAt roster.now kernel []) }
+        ensures matches { IfOk result (λ kernel. MatchesAt roster.now kernel []) }
         ensures error { IfErr result (λ e. e ≡ Errno.NoMemory) }
     {
         let Ok(threads) = Threads::new(alloc, roster) else {

@@ -2,7 +2,7 @@
 
 ghost use Rattle.std.specs.Prelude.{◌≡◌, ◌<◌, length, slice_get, Some};
 ghost use Rattle.std.specs.Option.{option_map};
-ghost use Rattle.qkernel.specs.Kept.{events_of, AllWithin};
+ghost use Rattle.qkernel.specs.LoggedEvents.{events_of, AllWithin};
 
 use qbase::ids::ThreadNo;
 use qmodel::call::{Call, Completion};
@@ -32,7 +32,7 @@ impl Model for Trace {
 
     ghost Value = { Run };
 
-    ghost use Rattle.qkernel.specs.Kept.{events_of, AllWithin};
+    ghost use Rattle.qkernel.specs.LoggedEvents.{events_of, AllWithin};
 
     ghost view = { λ t. record { first = t.first; events = events_of t.completions.items t.entries.items } };
 

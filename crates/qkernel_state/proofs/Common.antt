@@ -18,8 +18,8 @@ pub use Rattle.qkernel_state.specs.Cancelling.{AreCancelled, Lose, LoseCancelled
 pub use Rattle.qkernel_state.specs.Cancelling.{is_cancelled_among, is_cancelled_by, is_cancelled_open, is_taken_from}
 pub use Rattle.qkernel_state.specs.Cancelling.{thread_after_cancelled, unread_on_by, with_completion}
 pub use Rattle.qkernel_state.specs.Channel.{ClosesIn, SetsItems, ids_of, is_of, own_channel_in, route_in}
-pub use Rattle.qkernel_state.specs.Kept.{channel_in, items_waiting_on, members_of, open_channel_of, pending_in}
-pub use Rattle.qkernel_state.specs.Kept.{thread_priority}
+pub use Rattle.qkernel_state.specs.Contents.{channel_in, items_waiting_on, members_of, open_channel_of, pending_in}
+pub use Rattle.qkernel_state.specs.Contents.{thread_priority}
 pub use Rattle.qkernel_state.specs.Thread.{ChangesOpen, ChangesSender, SetsOpen, SetsPriority, Wakes, is_sending}
 pub use Rattle.qkernel_state.specs.Thread.{later_of_two, message_from, newest_in, open_in, ready_thread, seat_in}
 pub use Rattle.qkernel_state.specs.Thread.{sender_in, sent_call}

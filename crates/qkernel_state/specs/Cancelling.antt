@@ -15,7 +15,7 @@ use Rattle.qkernel_state.specs.declared.cancelling.CancelSet.{CancelSet}
 use Rattle.qkernel_state.specs.declared.cancelling.CancelSet.TheVariants.{On, All, Of, Over}
 use Rattle.qkernel_state.specs.declared.thread.Thread.{Thread}
 use Rattle.qkernel_state.specs.Channel.{ids_of}
-use Rattle.qkernel_state.specs.Kept.{channel_in, pending_in, members_of, thread_priority}
+use Rattle.qkernel_state.specs.Contents.{channel_in, pending_in, members_of, thread_priority}
 use Rattle.qkernel_state.specs.Thread.{open_in}
 
 -- true if the open call of thread u is cancelled

@@ -5,7 +5,7 @@ use Rattle.std.specs.List.{AllByRecursion}
 use Rattle.qqueue.specs.declared.item.Item.{Item}
 use Rattle.qtables.specs.declared.connection.Connection.{Connection}
 use Rattle.qkernel_state.specs.declared.channel.Channel.{Channel}
-use Rattle.qkernel_state.specs.Kept.{channel_in, pending_in}
+use Rattle.qkernel_state.specs.Contents.{channel_in, pending_in}
 use Rattle.qmodel.specs.Trace.{OpenChannel}
 
 -- true if the channel is open and owned by this process

@@ -2,7 +2,7 @@
 use Rattle.std.specs.Prelude.{List, ℕ}
 use Rattle.qqueue.specs.declared.item.Item.{Item}
 use Rattle.qmodel.specs.Trace.{OpenChannel}
-use Rattle.qkernel_state.specs.Kept.{open_channel_of}
+use Rattle.qkernel_state.specs.Contents.{open_channel_of}
 use Rattle.qkernel_state.specs.declared.channel.Channel.{Channel}
 
 -- the facts about a channel: its owner and flags, and its queued items

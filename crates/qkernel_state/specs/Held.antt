@@ -8,7 +8,7 @@ use Rattle.qkernel_state.specs.declared.channel.Channel.{Channel}
 use Rattle.qkernel_state.specs.declared.held.HeldMessage.{HeldMessage}
 use Rattle.qkernel_state.specs.declared.thread.Thread.{Thread}
 use Rattle.qkernel_state.specs.Channel.{is_of}
-use Rattle.qkernel_state.specs.Kept.{channel_in}
+use Rattle.qkernel_state.specs.Contents.{channel_in}
 use Rattle.qkernel_state.specs.Thread.{sent_call}
 
 -- the message of an open call, if it is held on a channel with the unblock flag

@@ -11,7 +11,7 @@ use Rattle.qrules.specs.Records.{takes}
 use Rattle.qkernel_state.specs.declared.channel.Channel.{Channel}
 use Rattle.qkernel_state.specs.declared.thread.Thread.{Thread}
 use Rattle.qkernel_state.specs.Channel.{SetsItems}
-use Rattle.qkernel_state.specs.Kept.{channel_in, pending_in}
+use Rattle.qkernel_state.specs.Contents.{channel_in, pending_in}
 use Rattle.qkernel_state.specs.Thread.{newest_in, open_in, Wakes}
 
 -- true if fewer than 1,024 pulses are queued on channel h

@@ -8,7 +8,7 @@ use Rattle.qmodel.specs.declared.open_call.OpenCall.{OpenCall}
 use Rattle.qmodel.specs.declared.open_call.Receipt.{Receipt}
 use Rattle.qmodel.specs.OpenCalls.{send_in}
 use Rattle.qkernel_state.specs.declared.thread.Thread.{Thread}
-use Rattle.qkernel_state.specs.Kept.{members_of, thread_priority}
+use Rattle.qkernel_state.specs.Contents.{members_of, thread_priority}
 use Rattle.qrules.specs.Records.{sender_among, message_in}
 use Rattle.qrules.specs.Facts.{threads_of}
 use Rattle.qrules.specs.Records.{newest_receiver_among}

@@ -10,7 +10,7 @@ use Rattle.qmodel.specs.declared.open_call.OpenCall.{OpenCall}
 use Rattle.qkernel_state.specs.declared.index.IndexGuesses.{IndexGuesses}
 use Rattle.qkernel_state.specs.declared.thread_ref.ThreadRef.{ThreadRef}
 use Rattle.qkernel_state.specs.declared.thread.Thread.{Thread}
-use Rattle.qkernel_state.specs.Kept.{members_of, thread_priority}
+use Rattle.qkernel_state.specs.Contents.{members_of, thread_priority}
 use Rattle.qmodel.specs.OpenCalls.{receive_in, thread_of, number_of}
 use Rattle.qkernel_state.specs.Thread.{open_in, seat_in}
 use Rattle.qrules.specs.Facts.{threads_of}
@@ -71,6 +71,6 @@ newest_of h item [] = None
 newest_of h item (t ∷ threads) =
     newer_of t.member.thread (wait_on h item t.open_call) (newest_of h item threads)
 
--- a pair of a number and a ThreadRef, as a pair of the number and the Seat's thread
+-- a pair of a number and a ThreadRef, as a pair of the number and the thread
 abbrev pub number_and_thread : Option (ℕ × ThreadRef) → Option (ℕ × ℕ)
 number_and_thread found = option_map (λ b. (b.0, b.1.thread)) found

@@ -7,7 +7,7 @@ use Rattle.qmodel.specs.declared.open_call.OpenCall.TheVariants.{Receive, Send}
 use Rattle.qkernel_state.specs.declared.channel.Channel.{Channel}
 use Rattle.qkernel_state.specs.declared.unread.UnreadMessage.{UnreadMessage}
 use Rattle.qkernel_state.specs.Channel.{ids_of}
-use Rattle.qkernel_state.specs.Kept.{channel_in, pending_in}
+use Rattle.qkernel_state.specs.Contents.{channel_in, pending_in}
 
 -- the message of an open call, if it isn't received yet
 abbrev pub unread_of : OpenCall → Option UnreadMessage

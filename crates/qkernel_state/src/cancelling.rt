@@ -12,7 +12,7 @@ ghost use Rattle.qkernel_state.specs.Cancelling.{thread_after_cancelled, thread_
 ghost use Rattle.qkernel_state.specs.Cancelling.{unread_on_by, call_if_cancelled, is_taken_from, Lose};
 ghost use Rattle.qkernel_state.specs.Cancelling.{AreCancelled, LoseCancelled};
 ghost use Rattle.qkernel_state.specs.Thread.{open_in};
-ghost use Rattle.qkernel_state.specs.Kept.{members_of};
+ghost use Rattle.qkernel_state.specs.Contents.{members_of};
 
 use crate::channel::Channel;
 use crate::completions::Completions;

@@ -5,7 +5,7 @@ ghost use Rattle.std.specs.Prelude.{Some, if◌then◌else◌, IsOk, OnOk, OnErr
 ghost use Rattle.std.specs.List.{AllByRecursion};
 ghost use Rattle.qrules.specs.Records.{is_fixed, tells_disconnect, tells_unblock};
 ghost use Rattle.qkernel_state.specs.Channel.{is_of, route_in, ClosesIn};
-ghost use Rattle.qkernel_state.specs.Kept.{channel_in, open_channel_of};
+ghost use Rattle.qkernel_state.specs.Contents.{channel_in, open_channel_of};
 ghost use Rattle.qtables.specs.Entries.{entry_at};
 
 use crate::objects::Objects;

@@ -3,7 +3,7 @@
 ghost use Rattle.std.specs.Prelude.{◌≡◌, ◌<◌, true, is_some, IfOk, IfErr, IfSome};
 ghost use Rattle.std.specs.List.{AllByRecursion};
 ghost use Rattle.qqueue.specs.Best.{is_pulse};
-ghost use Rattle.qkernel_state.specs.Kept.{channel_in, pending_in};
+ghost use Rattle.qkernel_state.specs.Contents.{channel_in, pending_in};
 ghost use Rattle.qkernel_state.specs.Pulses.{IsSent, IsSentIfDue, IsTurnedAway, IsUnsent};
 
 use crate::objects::Objects;

@@ -4,7 +4,7 @@ ghost use Rattle.std.specs.Prelude.{option_and_then, ◌≡◌, ◌+◌, ℕ, tr
 ghost use Rattle.std.specs.Prelude.{IfSome};
 ghost use Rattle.qqueue.specs.declared.item.Item.{Item};
 ghost use Rattle.qtables.specs.Members.{IsRoster};
-ghost use Rattle.qkernel_state.specs.Kept.{members_of};
+ghost use Rattle.qkernel_state.specs.Contents.{members_of};
 ghost use Rattle.qmodel.specs.OpenCalls.{receive_in};
 ghost use Rattle.qkernel_state.specs.Thread.{newest_in, open_in, Wakes};
 ghost use Rattle.qkernel_state.specs.Threads.{IsSeatIn, newest_of, number_and_thread};

@@ -3,7 +3,7 @@
 ghost use Rattle.std.specs.Prelude.{option_and_then, ◌≡◌, ◌<◌, ◌≤◌, None, Some, true, is_some, length, map};
 ghost use Rattle.std.specs.Prelude.{IfOk, IfSome};
 ghost use Rattle.qtables.specs.Members.{member_at, IsRoster};
-ghost use Rattle.qkernel_state.specs.Kept.{members_of, thread_priority};
+ghost use Rattle.qkernel_state.specs.Contents.{members_of, thread_priority};
 ghost use Rattle.qmodel.specs.OpenCalls.{receive_in, send_in, thread_of};
 ghost use Rattle.qkernel_state.specs.Thread.{ready_thread, open_in, seat_in, SetsOpen, SetsPriority, Wakes};
 ghost use Rattle.qkernel_state.specs.Threads.{IsSeatIn, IsRecordOf};

@@ -143,13 +143,13 @@ pub record Stands (keys : List ℕ) (p before after : ℕ) : Type 0 where
   pub alone : keys ≡ [] → after ≡ p
   pub among : (c : ℕ) (rest : List ℕ) → keys ≡ c ∷ rest → (after ≡ c) × (before ≡ last_from c rest)
 
-pub stands : (s : Slab Node) (p before after : ℕ) (keys : List ℕ) → Ring s (p ∷ keys) → after_of s p ≡ Some after
+pub matches : (s : Slab Node) (p before after : ℕ) (keys : List ℕ) → Ring s (p ∷ keys) → after_of s p ≡ Some after
     → before_of s p ≡ Some before → Stands keys p before after
-stands s p before after [] ring next prior = record {
+matches s p before after [] ring next prior = record {
   alone = λ _. let r : after_of s p ≡ Some p = ring.0 in cc;
   among = λ c rest e. absurd (cc);
 }
-stands s p before after (d ∷ keys) ring next prior = record {
+matches s p before after (d ∷ keys) ring next prior = record {
   alone = λ e. absurd (cc);
   among = λ c rest e.
       let first : d ≡ c = cc in

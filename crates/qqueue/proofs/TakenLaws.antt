@@ -8,7 +8,7 @@ use Rattle.std.specs.Prelude.{Option, None, Some, is_some, IsSome}
 use Rattle.qqueue.proofs.PlaceLaws.{places_put, places_same, only_place, rises_but_put, without_put, all_places}
 use Rattle.qqueue.proofs.PlaceLaws.{pulses_put}
 use Rattle.qqueue.proofs.RingLaws.{Apart, apart_turn, last_from, last_all, all_split, all_join, ring_turn, ring_away}
-use Rattle.qqueue.proofs.RingLaws.{ring_but_first, Stands, stands, keys_put, keys_put_other, keys_apart}
+use Rattle.qqueue.proofs.RingLaws.{ring_but_first, Stands, matches, keys_put, keys_put_other, keys_apart}
 use Rattle.qqueue.proofs.KeptLaws.{on_true, on_from, IsOf, held, placed, at_place, keys_used, used_apart}
 
 -- a node is removed from the slab
@@ -28,7 +28,7 @@ module _ (first : Bool → ℕ → Option ℕ) (s removed : Slab Node) (key : �
     pub links : Stands rest key node.before node.after
 
   -- the place of the node in its ring, before and after the removal
-  pub record StandsAt : Type 0 where
+  pub record MatchesAt : Type 0 where
     pub front : List ℕ
     pub back : List ℕ
     pub before : keys_on own node.item.priority (places_of s) ≡ front ++ key ∷ back
@@ -85,11 +85,11 @@ module _ (first : Bool → ℕ → Option ℕ) (s removed : Slab Node) (key : �
           ring = ring;
           apart = apart_turn front (key ∷ back) (subst Apart is (keys_apart s own level (places_of s) h.up (held s)));
           used = all_join (IsOf s own level) back front used.1.1 used.0;
-          links = stands s key node.before node.after (back ++ front) ring after before;
+          links = matches s key node.before node.after (back ++ front) ring after before;
         }
 
-    pub stands_at : StandsAt
-    stands_at =
+    pub matches_at : MatchesAt
+    matches_at =
         let level = node.item.priority in
         let on : is_on own level (node.item, key) ≡ true = on_from own level (node.item, key) h.kind refl in
         let found = keys_put own level (node.item, key) (places_of removed) on in
@@ -117,7 +117,7 @@ module _ (first : Bool → ℕ → Option ℕ) (s removed : Slab Node) (key : �
     -- a node that isn't the only one of its ring has neighbours of its kind and level
     pub neighbours : node.after ≢ key → IsOf s own node.item.priority node.after
         × IsOf s own node.item.priority node.before × (node.before ≢ key)
-    neighbours among = neighbours_of (stands_at.back ++ stands_at.front) stands_at.turn among
+    neighbours among = neighbours_of (matches_at.back ++ matches_at.front) matches_at.turn among
 
     -- the neighbours are still there
     pub neighbours_there : node.after ≢ key → IsSome (item_of removed node.before) × IsSome (item_of removed node.after)
@@ -206,7 +206,7 @@ module _ (first after_first : Bool → ℕ → Option ℕ) (s removed t : Slab N
     ring_of_own : IsRing own node.item.priority (keys_on own node.item.priority (places_of t))
     ring_of_own =
         let level = node.item.priority in
-        let at_own = stands_at first s removed key node own h in
+        let at_own = matches_at first s removed key node own h in
         let now : keys_on own level (places_of t) ≡ at_own.front ++ at_own.back = ap (keys_on own level) same_places
         ∙ at_own.after in
         subst (IsRing own level) (sym now)

@@ -19,7 +19,7 @@ pub use Rattle.qrules.proofs.Traces.Past.Items.{IsPending, Stands, before_earlie
 pub use Rattle.qrules.proofs.Traces.Past.Items.{item_answer, item_at, item_below, item_earlier, item_found, item_made}
 pub use Rattle.qrules.proofs.Traces.Past.Items.{item_message, item_newest, item_priority, items_on, made_by}
 pub use Rattle.qrules.proofs.Traces.Past.Items.{pending_all, pending_each, pending_is, pending_priorities}
-pub use Rattle.qrules.proofs.Traces.Past.Items.{priority_earlier, priority_newest, standing_is, stands_all, staying}
+pub use Rattle.qrules.proofs.Traces.Past.Items.{priority_earlier, priority_newest, standing_is, matches_all, staying}
 pub use Rattle.qrules.proofs.Traces.Past.Items.{staying_all}
 pub use Rattle.qrules.proofs.Traces.Past.Laws.{IsReceipt, IsReceived, IsSettled, Passes, RowLaws, is_settled}
 pub use Rattle.qrules.proofs.Traces.Past.Numbers.{block_asked, block_below, block_fresh, blocks, blocks_thread}

@@ -17,7 +17,8 @@ pub use Rattle.qrules.proofs.Traces.Past.Ends.{accepted, ended_below, ends_own, 
 pub use Rattle.qrules.proofs.Traces.Past.Follows.{past_follows}
 pub use Rattle.qrules.proofs.Traces.Past.Items.{IsPending, Stands, before_earlier, item_accepted, item_at, item_below}
 pub use Rattle.qrules.proofs.Traces.Past.Items.{item_earlier, item_made, item_newest, item_priority, items_on, made_by}
-pub use Rattle.qrules.proofs.Traces.Past.Items.{pending_all, pending_each, pending_is, standing_is, stands_all, staying}
+pub use Rattle.qrules.proofs.Traces.Past.Items.{pending_all, pending_each, pending_is, standing_is, matches_all}
+pub use Rattle.qrules.proofs.Traces.Past.Items.{staying}
 pub use Rattle.qrules.proofs.Traces.Past.Laws.{Passes}
 pub use Rattle.qrules.proofs.Traces.Past.Moves.{map_same, mover, mover_what}
 pub use Rattle.qrules.proofs.Traces.Past.Open.{is_unblocked, kept_number, open_from, open_own, open_parts, open_receipt}
@@ -30,7 +31,7 @@ pub use Rattle.qrules.proofs.Traces.Properties.Events.{is_accepted_by, is_refuse
 pub use Rattle.qrules.proofs.Traces.Properties.Receipts.{TakesOne, completion_of, takes_one}
 pub use Rattle.qrules.proofs.Traces.Properties.Sends.{begins_now, made_newest, made_stays, open_on}
 pub use Rattle.qrules.proofs.Traces.Properties.ShutForGood.{shut_for_good, waits_on_open}
-pub use Rattle.qrules.proofs.Traces.TraceLaws.Held.{held_sender, taken_stands}
+pub use Rattle.qrules.proofs.Traces.TraceLaws.Held.{held_sender, taken_matches}
 pub use Rattle.qrules.proofs.Traces.TraceLaws.Lengths.{open_calls_keep_length}
 pub use Rattle.qrules.proofs.Words.Effects.{attaches, closes, creates, detaches, makes, sets, shuts_down}
 pub use Rattle.qrules.proofs.Words.Effects.{thread_of_send, unblocks}

@@ -4,7 +4,7 @@ use Rattle.qrules_laws.proofs.Common.{Trace, accepted, all_more, and_from, best_
 use Rattle.qrules_laws.proofs.Common.{ended_below, ends_own, eq-eqb, filter_map, has_completion_of, is_accepted}
 use Rattle.qrules_laws.proofs.Common.{is_ended, item_at, item_over, items, laws_of, list_any, made_newest, none-some}
 use Rattle.qrules_laws.proofs.Common.{none_of, number_received, option_map, or_parts, passes_of, past_follows, row_of}
-use Rattle.qrules_laws.proofs.Common.{shut_for_good, taken_stands, threads_of, waiter, waits_or_ends, ◌<◌, inl, inr}
+use Rattle.qrules_laws.proofs.Common.{shut_for_good, taken_matches, threads_of, waiter, waits_or_ends, ◌<◌, inl, inr}
 use Rattle.qrules_laws.proofs.Common.{◌≡◌, ◌∙◌, ℕ, ◌+◌, List, [], ◌∷◌, length, refl, ap, sym, eqb, subst, Bool, true}
 use Rattle.qrules_laws.proofs.Common.{false, Option, arith}
 use Rattle.std.specs.Prelude.{None, Some, option_map, ◌&&◌}
@@ -96,7 +96,7 @@ among_items p roster (e ∷ past) i m is passes = grind (arith, list_any-append 
 was_sent : (roster : List Member) (past : Trace) (e : Event) (x : Completion) (i : ℕ) → TakesBest roster past e x i
     → Completions.WasSent roster (e ∷ past) x i
 was_sent roster past e x i k =
-    let s = taken_stands roster past e x i k in
+    let s = taken_matches roster past e x i k in
     record {
       request = k.request;
       call = k.call;

@@ -2,7 +2,7 @@
 use Rattle.qrules_laws.proofs.Common.{AllByRecursion, Bool, Event, Item, List, Member, Stands, Trace, [], ap, arith}
 use Rattle.qrules_laws.proofs.Common.{comes_before, cond, false, false_from_ne_true, is_destroyed, is_gone, is_pulse}
 use Rattle.qrules_laws.proofs.Common.{is_received, item_below, item_of, items_more, items_on, made_by, made_on, map}
-use Rattle.qrules_laws.proofs.Common.{now, or_parts, pending_is, pending_items, refl, sent_by, standing_is, stands_all}
+use Rattle.qrules_laws.proofs.Common.{now, or_parts, pending_is, pending_items, refl, sent_by, standing_is, matches_all}
 use Rattle.qrules_laws.proofs.Common.{staying, stays_gone, subst, sum_by-append, sym, true, true≢false, worth_newest}
 use Rattle.qrules_laws.proofs.Common.{worth_set, ℕ, ◌+◌, ◌∙◌, ◌∷◌, ◌≡◌, ◌≤◌, ◌++◌, None, Some, not, count_by, filter}
 use Rattle.std.proofs.lemmas.List.{map-append}
@@ -100,7 +100,7 @@ module _ (roster : List Member) (past : Trace) (e : Event) (l : old.IsLawful ros
             (map (now (e ∷ past)) (left M))
             ∙ ap (λ n. laws.place x (map (now (e ∷ past)) (left L)) + n) (none_made none) in
             let less = all_fall (Stands roster past h) P (λ y. comes_before y x) (is_gone (e ∷ past)) (is_gone past)
-            (now past) (now (e ∷ past)) L (stands_all roster past h) (subst (AllByRecursion P) was none.set)
+            (now past) (now (e ∷ past)) L (matches_all roster past h) (subst (AllByRecursion P) was none.set)
             (λ y at. (refl, stays_gone past e.thread e.call e.completions y, stays_behind y at)) in
             rw (count, was) (omega (arith, less))
       ] refl

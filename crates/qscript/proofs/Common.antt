@@ -3,14 +3,14 @@ pub use Rattle.hex.specs.Hex.{IsBytes, encode_lower, is_hex_digit}
 pub use Rattle.qkernel.proofs.Running.{headline_of, runs_more}
 pub use Rattle.qkernel.specs.Kernel.{State}
 pub use Rattle.qkernel.specs.Run.{AllKnown, IsWellRun}
-pub use Rattle.qkernel.specs.Stands.{AnswersAtTraces, StandsAt}
+pub use Rattle.qkernel.specs.Matching.{AnswersAtTraces, MatchesAt}
 pub use Rattle.qmodel.specs.Trace.{Event, Run, Run as Events, Trace}
 pub use Rattle.qmodel.specs.declared.call.Call.{Call}
 pub use Rattle.qmodel.specs.declared.call.Completion.{Completion}
 pub use Rattle.qmodel.specs.declared.open_call.Blocked.{Blocked}
 pub use Rattle.qscript_text.proofs.Texts.Digits.{own}
 pub use Rattle.qscript_text.proofs.Texts.Progress.{Stands, calls_more, not_long, not_too_long, roster_more}
-pub use Rattle.qscript_text.proofs.Texts.Progress.{stands_first, stands_last, stands_more}
+pub use Rattle.qscript_text.proofs.Texts.Progress.{matches_first, matches_last, matches_more}
 pub use Rattle.qscript_text.specs.Reading.Line.{is_text, line_of}
 pub use Rattle.qscript_text.specs.Reading.Words.{is_empty, words_of}
 pub use Rattle.qrules.specs.Lawful.{event_call, facts_of}
@@ -30,7 +30,7 @@ pub use Rattle.qscript.specs.Writing.WritingLaws.{ScriptsAreRead}
 pub use Rattle.qscript.specs.Writing.Line.{call_line, member_line, operand_word}
 pub use Rattle.qscript.specs.Writing.Text.{call_text, member_text}
 pub use Rattle.qscript.specs.declared.printing.printer.Printer.{Printer}
-pub use Rattle.qkernel_state.specs.Kept.{members_of}
+pub use Rattle.qkernel_state.specs.Contents.{members_of}
 pub use Rattle.qtables.specs.Members.{IsRoster, join_refusal, member_at, with_member}
 pub use Rattle.qtables.specs.declared.member.Member.{Member}
 pub use Rattle.std.proofs.Common.{Bool, Err, IsTrue, List, None, Ok, Option, Result, Some, [], add-one, add-zero, ap}

@@ -5,10 +5,10 @@ use Rattle.qmodel.specs.declared.call.Call.{Call}
 use Rattle.qmodel.specs.declared.open_call.Blocked.{Blocked}
 use Rattle.qmodel.specs.Trace.{Run as Events, Trace}
 use Rattle.qrules.specs.Lawful.{facts_of}
-use Rattle.qkernel_state.specs.Kept.{members_of}
+use Rattle.qkernel_state.specs.Contents.{members_of}
 use Rattle.qkernel.specs.Blocked.{blocked_threads}
 use Rattle.qkernel.specs.Kernel.{State}
-use Rattle.qkernel.specs.Stands.{StandsAt}
+use Rattle.qkernel.specs.Matching.{MatchesAt}
 use Rattle.qscript.specs.Printing.Printed.{printed}
 use Rattle.qscript.specs.Printing.Printer.{HasPrinted, HasRun}
 use Rattle.qscript.specs.declared.run.Run.{Run}
@@ -22,7 +22,7 @@ pub record HasMade (old : State) (calls : List (ℕ × Call)) (run : Run) : Type
 
 -- these threads are blocked after each history that matches the kernel's state
 abbrev pub AreBlocked : State → List Blocked → Type 0
-AreBlocked s blocked = (roster : List Member) (past : Trace) → StandsAt roster s past
+AreBlocked s blocked = (roster : List Member) (past : Trace) → MatchesAt roster s past
     → blocked ≡ blocked_threads (facts_of roster past)
 
 -- the text has the lines of the run's events, and the lines of the threads that are blocked after them

@@ -28,7 +28,7 @@ abbrev pub IsReadFault : ScriptFault → Option (List ℕ) → Option (List ℕ)
 IsReadFault faults.Read before after faulted = (bytes : List ℕ) × FailsWithin before after faulted bytes
 IsReadFault faults.TooLong before after faulted = (bytes : List ℕ) × IsOverfull before after faulted bytes
 IsReadFault faults.NoMemory before after faulted = Unit {0}
-IsReadFault (faults.ScriptLine n f) before after faulted = ⊥
+IsReadFault (faults.Line n f) before after faulted = ⊥
 IsReadFault faults.Write before after faulted = ⊥
 
 -- a writer took some bytes from the front, perhaps none or all of them, and then failed

@@ -4,9 +4,9 @@ ghost use Rattle.std.specs.Prelude.{◌≡◌, ℕ, ◌+◌, ◌⊎◌, ◌++◌
 ghost use Rattle.std.specs.Prelude.{string_bytes, true};
 ghost use Rattle.qtables.specs.Members.{member_at};
 ghost use Rattle.qmodel.specs.declared.call.Call.{Call};
-ghost use Rattle.qkernel_state.specs.Kept.{members_of};
+ghost use Rattle.qkernel_state.specs.Contents.{members_of};
 ghost use Rattle.qkernel.specs.Kernel.{State, IsSound};
-ghost use Rattle.qkernel.specs.Stands.{StandsAt, AnswersAtTraces, DispatchError};
+ghost use Rattle.qkernel.specs.Matching.{MatchesAt, AnswersAtTraces, DispatchError};
 ghost use Rattle.qscript.specs.Running.{HasMade, IsEnded};
 
 use crate::printing::ended_line::shows;
@@ -30,7 +30,7 @@ pub struct Run {
 impl Run {
     /// Begins a run on a new kernel, and reserves memory for the lines of `calls` calls.
     pub fn new(alloc: Global, roster: &Roster, calls: usize) -> Result<Run, AllocError>
-        ensures stands { IfOk result (λ run. StandsAt roster.now run.kernel []) }
+        ensures matches { IfOk result (λ run. MatchesAt roster.now run.kernel []) }
         ensures sound { IfOk result (λ run. IsSound run.kernel) }
         ensures begun { IfOk result (λ run. HasMade run.kernel [] run) }
     {

@@ -1,5 +1,5 @@
 -- The threads whose priority a call changed, read from the kernel's records of threads.
-use Rattle.qscript_chart.proofs.Common.{AllByRecursion, IsRoster, List, Member, None, Some, StandsAt, State, [], ap}
+use Rattle.qscript_chart.proofs.Common.{AllByRecursion, IsRoster, List, Member, None, Some, MatchesAt, State, [], ap}
 use Rattle.qscript_chart.proofs.Common.{arith, change_since, changed_threads, cond, eqb, facts_in, facts_of, false}
 use Rattle.qscript_chart.proofs.Common.{filter_map, find, level_of, map, members_of, option_map_or, priority_in, refl}
 use Rattle.qscript_chart.proofs.Common.{thread_priority, true, ℕ, ◌<◌, ◌∙◌, ◌∷◌, ◌≡◌}
@@ -52,8 +52,8 @@ changed_now old new rises =
     same_changes old.threads (thread_priority new.threads) new.threads (own_priority new.threads rises)
 
 pub told_changes : (old new : State) → IsRoster (members_of new.threads) → (roster : List Member) (past after : Trace)
-    → StandsAt roster old past → StandsAt roster new after
+    → MatchesAt roster old past → MatchesAt roster new after
     → filter_map (change_since (map level_of old.threads)) (map level_of new.threads) ≡ changed_threads
     (facts_of roster past) (facts_of roster after)
-told_changes old new rises roster past after stood stands = changed_now old new rises
-    ∙ ap (λ f. changed_threads f (facts_in new)) stood ∙ ap (changed_threads (facts_of roster past)) stands
+told_changes old new rises roster past after matched matches = changed_now old new rises
+    ∙ ap (λ f. changed_threads f (facts_in new)) matched ∙ ap (changed_threads (facts_of roster past)) matches

@@ -5,13 +5,13 @@ pub use Rattle.qscript_chart.specs.Rows.{event_thread, row_arrows, row_blocked, 
 pub use Rattle.qkernel.proofs.Running.{headline_of, runs_more}
 pub use Rattle.qkernel.specs.Blocked.{blocked_threads}
 pub use Rattle.qkernel.specs.Kernel.{State, facts_in}
-pub use Rattle.qkernel.specs.Stands.{AnswersAtTraces, StandsAt}
+pub use Rattle.qkernel.specs.Matching.{AnswersAtTraces, MatchesAt}
 pub use Rattle.qmodel.specs.Trace.{Event, Run, Trace}
 pub use Rattle.qmodel.specs.declared.call.Call.{Call}
 pub use Rattle.qrules.specs.Lawful.{event_call, facts_of}
 pub use Rattle.qrules.specs.Trace.{followed_by}
 pub use Rattle.qscript.specs.Enrolled.{AllJoin, roster_with}
-pub use Rattle.qkernel_state.specs.Kept.{members_of, thread_priority}
+pub use Rattle.qkernel_state.specs.Contents.{members_of, thread_priority}
 pub use Rattle.qtables.specs.Members.{IsRoster, member_at}
 pub use Rattle.qtables.specs.declared.member.Member.{Member}
 pub use Rattle.std.proofs.Common.{List, [], ap, append-nil, append_assoc, arith, cond, eqb, false, length, map, refl}

@@ -51,12 +51,12 @@ pub going_none : (old : State) → Going old [] old [] []
 going_none old = record {
   rows = record {
     events = [];
-    ran = λ roster past lawful stands. (lawful, stands);
+    ran = λ roster past lawful matches. (lawful, matches);
     made = refl;
     threads = refl;
     arrows = refl;
-    changes = λ roster past lawful stands. refl;
-    blocked = λ roster past lawful stands. refl;
+    changes = λ roster past lawful matches. refl;
+    blocked = λ roster past lawful matches. refl;
   };
   callers = refl;
 }
@@ -91,18 +91,18 @@ going_more old calls mid new rows callers t c row g is =
             ∙ ap (λ u. map event_thread events ++ u ∷ []) is.thread ∙ sym (map-append event_thread events (e ∷ []));
         arrows = map-append row_arrows rows (row ∷ []) ∙ ap (λ rest. rest ++ row_arrows row ∷ []) g.rows.arrows
             ∙ ap (λ own. arrows_from [] events ++ own ∷ []) own ∙ sym (arrows_push [] events e);
-        changes = λ roster past lawful stands.
-            let before = g.rows.ran roster past lawful stands in
-            let now = ran roster past lawful stands in
+        changes = λ roster past lawful matches.
+            let before = g.rows.ran roster past lawful matches in
+            let now = ran roster past lawful matches in
             map-append row_changes rows (row ∷ [])
-            ∙ ap (λ cs. cs ++ row_changes row ∷ []) (g.rows.changes roster past lawful stands)
+            ∙ ap (λ cs. cs ++ row_changes row ∷ []) (g.rows.changes roster past lawful matches)
             ∙ ap (λ own. changes_from roster past events ++ own ∷ [])
             (is.changes roster (followed_by past events) (followed_by past (events ++ e ∷ [])) before.1 now.1)
             ∙ sym (changes_push roster past events e);
-        blocked = λ roster past lawful stands.
-            let now = ran roster past lawful stands in
+        blocked = λ roster past lawful matches.
+            let now = ran roster past lawful matches in
             map-append row_blocked rows (row ∷ [])
-            ∙ ap (λ bs. bs ++ row_blocked row ∷ []) (g.rows.blocked roster past lawful stands)
+            ∙ ap (λ bs. bs ++ row_blocked row ∷ []) (g.rows.blocked roster past lawful matches)
             ∙ ap (λ own. blocked_from roster past events ++ own ∷ [])
             (is.blocked roster (followed_by past (events ++ e ∷ [])) now.1)
             ∙ sym (blocked_push roster past events e);

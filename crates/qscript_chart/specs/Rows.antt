@@ -8,7 +8,7 @@ use Rattle.qkernel.specs.Blocked.{blocked_threads}
 use Rattle.qrules.specs.Lawful.{event_call, facts_of, IsLawful}
 use Rattle.qmodel.specs.Trace.{Event, Trace}
 use Rattle.qkernel.specs.Run.{RunsAtTraces}
-use Rattle.qkernel.specs.Stands.{StandsAt}
+use Rattle.qkernel.specs.Matching.{MatchesAt}
 use Rattle.qkernel.specs.Kernel.{State}
 use Rattle.qscript_chart.specs.declared.arrow.Arrow.{Arrow}
 use Rattle.qscript_chart.specs.declared.row.ChartRow.{ChartRow}
@@ -61,8 +61,8 @@ row_blocked row = row.blocked.items
 -- `changes` has the threads whose priorities differ between the two states, with their priorities in the new
 -- one. A state has the priorities that follow from any history that leads to it
 abbrev pub TellsChanges : State → State → List Level → Type 0
-TellsChanges old new changes = (roster : List Member) (past now : Trace) → StandsAt roster old past
-    → StandsAt roster new now → changes ≡ changed_threads (facts_of roster past) (facts_of roster now)
+TellsChanges old new changes = (roster : List Member) (past now : Trace) → MatchesAt roster old past
+    → MatchesAt roster new now → changes ≡ changed_threads (facts_of roster past) (facts_of roster now)
 
 -- a kernel made these calls, which led from the old state to the new one, and these are the rows of their
 -- events. Their changed priorities and blocked threads follow from every valid history that leads to the old
@@ -73,9 +73,9 @@ pub record HasRows (old : State) (calls : List (ℕ × Call)) (new : State) (row
   pub made : map event_call events ≡ calls
   pub threads : map row_thread rows ≡ map event_thread events
   pub arrows : map row_arrows rows ≡ arrows_from [] events
-  pub changes : (roster : List Member) (past : Trace) → IsLawful roster past → StandsAt roster old past
+  pub changes : (roster : List Member) (past : Trace) → IsLawful roster past → MatchesAt roster old past
       → map row_changes rows ≡ changes_from roster past events
-  pub blocked : (roster : List Member) (past : Trace) → IsLawful roster past → StandsAt roster old past
+  pub blocked : (roster : List Member) (past : Trace) → IsLawful roster past → MatchesAt roster old past
       → map row_blocked rows ≡ blocked_from roster past events
 
 -- these are the rows of these events, the first of a kernel. Each has the thread that called, the arrows in

@@ -3,8 +3,8 @@
 ghost use Rattle.std.specs.Prelude.{◌≡◌, ◌+◌, ◌∷◌, ◌++◌, [], is_some, map, true, IfOk, OnOk};
 ghost use Rattle.std.specs.List.{filter_map};
 ghost use Rattle.qtables.specs.Members.{member_at};
-ghost use Rattle.qkernel_state.specs.Kept.{members_of};
-ghost use Rattle.qkernel.specs.Stands.{AnswersAtTraces};
+ghost use Rattle.qkernel_state.specs.Contents.{members_of};
+ghost use Rattle.qkernel.specs.Matching.{AnswersAtTraces};
 ghost use Rattle.qscript_chart.specs.Arrows.{arrow_of};
 ghost use Rattle.qscript.specs.Running.{AreBlocked};
 ghost use Rattle.qscript_chart.specs.Changes.{level_of};

@@ -1,6 +1,6 @@
 -- The value under the lock, before the first call.
 use Rattle.qshared.proofs.Common.{◌≡◌, ℕ, ◌≤◌, List, [], length, get_or, refl, ap, sym, subst, ◌∙◌, arith, replicate}
-use Rattle.qshared.proofs.Common.{length-map, IsRoster, Member, Completion, members_of, StandsAt, State, IsSound}
+use Rattle.qshared.proofs.Common.{length-map, IsRoster, Member, Completion, members_of, MatchesAt, State, IsSound}
 use Rattle.qshared.proofs.Common.{CellView, idle_line, seated_kernel_view, true≢false, AreLater, IsUnderLock}
 use Rattle.qshared.proofs.Common.{blocked_same, properties_of}
 use Rattle.qrules.proofs.Words.Facts.{threads_of}
@@ -11,17 +11,17 @@ same_replicate (Prim.Native.Nat.suc n) Prim.Native.Nat.zero x = refl
 same_replicate (Prim.Native.Nat.suc n) (Prim.Native.Nat.suc i) x = same_replicate n i x
 
 pub held_first : (roster : List Member) (slots : ℕ) (kernel : State) (threads : List ℕ) → IsSound kernel
-    → members_of kernel.threads ≡ roster → StandsAt (members_of kernel.threads) kernel []
+    → members_of kernel.threads ≡ roster → MatchesAt (members_of kernel.threads) kernel []
     → threads ≡ threads_of (members_of kernel.threads) → length threads ≡ slots
     → IsUnderLock roster slots kernel (seated_kernel_view slots slots) threads []
-held_first roster slots kernel threads sound same stands threads_are many =
+held_first roster slots kernel threads sound same matches threads_are many =
     let rises : IsRoster (members_of kernel.threads) = sound.roster in
     let few : length kernel.threads ≤ 64 = sound.few in
     let short : length (members_of kernel.threads) ≡ length kernel.threads =
     length-map kernel.threads (λ x. x.member) in
     let whole : length threads ≡ length (threads_of (members_of kernel.threads)) = ap length threads_are in
     let rises' : IsRoster roster = subst IsRoster same rises in
-    let stands' : StandsAt roster kernel [] = subst (λ r. StandsAt r kernel []) same stands in
+    let matches' : MatchesAt roster kernel [] = subst (λ r. MatchesAt r kernel []) same matches in
     let long : length (threads_of (members_of kernel.threads)) ≡ length (members_of kernel.threads) =
     length-map (members_of kernel.threads) (λ m. m.thread) in
     record {
@@ -32,7 +32,7 @@ held_first roster slots kernel threads sound same stands threads_are many =
       told = record {
         lawful = tt;
         properties = properties_of roster [] tt rises';
-        stands = stands';
+        matches = matches';
         tied =
             λ t i is. (
               ap (λ (l : CellView Completion). l.put) (same_replicate slots i idle_line),

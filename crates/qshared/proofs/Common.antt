@@ -11,11 +11,11 @@ pub use Rattle.qhandoff.specs.Words.{thread_id, thread_of, took}
 pub use Rattle.qhandoff.specs.declared.seats.ThreadSeat.{ThreadSeat}
 pub use Rattle.qhandoff.specs.declared.view.KernelView.{KernelView}
 pub use Rattle.qhandoff.specs.declared.view.CellView.{CellView}
-pub use Rattle.qkernel.proofs.Traces.{blocked_same, followed_length, followed_push, properties_of, stands_down}
-pub use Rattle.qkernel.proofs.Traces.{stands_made, stands_roster}
+pub use Rattle.qkernel.proofs.Traces.{blocked_same, followed_length, followed_push, properties_of, matches_down}
+pub use Rattle.qkernel.proofs.Traces.{matches_made, matches_roster}
 pub use Rattle.qkernel.specs.EventLog.{Logged, with_next}
 pub use Rattle.qkernel.specs.Kernel.{IsSound, State}
-pub use Rattle.qkernel.specs.Stands.{AnswersAtTraces, StandsAt}
+pub use Rattle.qkernel.specs.Matching.{AnswersAtTraces, MatchesAt}
 pub use Rattle.qmodel.specs.declared.call.Call.{Call}
 pub use Rattle.qmodel.specs.declared.call.Completion.{Completion}
 pub use Rattle.qshared.specs.History.{Extends}
@@ -37,12 +37,12 @@ pub use Rattle.qshared.specs.Due.{ends_open, in_turn, later_due, later_of, of_th
 pub use Rattle.qshared.specs.Past.{AreSeen, RiseByThread, has_completion_of, is_down}
 pub use Rattle.qshared.specs.Performing.{Admits, IsEvent, IsFree, IsReason, IsServed, Performs, Refuses, outcome}
 pub use Rattle.qshared.specs.Private.Putting.{Handed, MayPut}
-pub use Rattle.qshared.specs.Private.Rooms.{Copied, HasRoomFor, HasRooms, IsKept, MayCopy}
+pub use Rattle.qshared.specs.Private.Recorded.{Copied, HasRoomFor, HasRooms, IsKept, MayCopy}
 pub use Rattle.qshared.specs.UnderLock.{Agrees, IsUnderLock, UnderLock}
 pub use Rattle.qshared.specs.declared.port.Called.{Called}
 pub use Rattle.qshared.specs.declared.port.Called.TheVariants.{Blocked, Done, Refused}
 pub use Rattle.qkernel_state.proofs.Seats.{is_there, seat_kept}
-pub use Rattle.qkernel_state.specs.Kept.{members_of}
+pub use Rattle.qkernel_state.specs.Contents.{members_of}
 pub use Rattle.qtables.specs.Members.{IsRoster, member_at}
 pub use Rattle.qtables.specs.declared.member.Member.{Member}
 pub use Rattle.std.proofs.Common.{Bool, List, [], ap, append-nil, append_assoc, arith, cond, drop, eqb, false, get_or}

@@ -6,7 +6,7 @@ use Rattle.qshared.proofs.Common.{AreApart, gets, thread_at, with_event, among_m
 use Rattle.qshared.proofs.Common.{completions_are_apart, is_blocked, Answers, AnswersAtTraces, State, KernelView, line}
 use Rattle.qshared.proofs.Common.{opened_kernel_view, cancelled_kernel_view, IsBusy, one, HasWaited, at_once, later_due}
 use Rattle.qshared.proofs.Common.{of_thread, place, has_completion_of, is_down, IsUnderLock, Admits, IsFree, IsServed}
-use Rattle.qshared.proofs.Common.{IsReason, IsEvent, Performs, Refuses, outcome, MayPut, Handed, stands_down}
+use Rattle.qshared.proofs.Common.{IsReason, IsEvent, Performs, Refuses, outcome, MayPut, Handed, matches_down}
 use Rattle.qrules.proofs.Words.Facts.{threads_of}
 use Rattle.qmodel.specs.Trace.{Trace}
 use Rattle.qrules.proofs.Traces.TraceLaws.Completion.{completions_name_own_calls}
@@ -25,11 +25,11 @@ module _ (roster : List Member) (slots : ℕ) (kernel : State) (d : KernelView C
     is_known = among_member roster t (place_among (threads_of roster) t i at)
 
     pub is_shut : kernel.down ≡ true → is_down past ≡ true
-    is_shut e = sym (stands_down roster kernel past h.told.stands) ∙ e
+    is_shut e = sym (matches_down roster kernel past h.told.matches) ∙ e
 
     module _ (up : kernel.down ≡ false) where
       pub is_served : IsServed roster past t
-      is_served = record { known = is_known; up = sym (stands_down roster kernel past h.told.stands) ∙ up }
+      is_served = record { known = is_known; up = sym (matches_down roster kernel past h.told.matches) ∙ up }
 
       pub is_busy : IsBusy (line d i) → IsReason roster past t Busy
       is_busy b = (
@@ -74,7 +74,7 @@ module _ (roster : List Member) (slots : ℕ) (kernel : State) (d : KernelView C
         module _ (few : length past < 2 ^ 40) (c : Call) (X : List Completion) (new : State)
             (step : AnswersAtTraces kernel t c X new) where
           pub answers : Answers (facts_of roster past) t c X
-          answers = (step roster past h.told.lawful h.told.stands).0
+          answers = (step roster past h.told.lawful h.told.matches).0
 
           pub apart : AreApart X
           apart = completions_are_apart roster past (record { thread = t; call = c; completions = X }) h.rises
@@ -92,7 +92,7 @@ module _ (roster : List Member) (slots : ℕ) (kernel : State) (d : KernelView C
             few = h.few;
             threads_are = h.threads_are;
             told = told_after roster kernel d past t i h.told at near free c X answers h.rises new d'
-                (step roster past h.told.lawful h.told.stands).1
+                (step roster past h.told.lawful h.told.matches).1
                 (subst (λ ts. Handed ts t X (opened_kernel_view d i) d') h.threads_are handed);
             numbered = omega (arith, few);
           }

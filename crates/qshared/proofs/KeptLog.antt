@@ -17,7 +17,7 @@ use Rattle.qrules.proofs.Words.Past as old_past
 use Rattle.qrules.specs.Lawful as rules
 use Rattle.qrules.specs.Outcome as outcome
 use Rattle.qrules.proofs.Traces.Past.Ends.{accepted}
-use Rattle.qshared.specs.Rooms.{KeptPast, admits_kept, refuses_kept}
+use Rattle.qshared.specs.Recorded.{KeptPast, admits_recorded, refuses_recorded}
 use Rattle.qshared.proofs.Places.{place_below, place_same, place_some}
 
 -- ---- a call that isn't noted
@@ -27,13 +27,13 @@ past_length events = let a = followed_length [] events in omega (arith, a)
 
 pub refused_kept : (limit : ℕ) (events : List Event) (c : Call) (e : Errno) → c ≢ Shutdown
     → ((e ≡ TraceFull) × (length events + 1 ≡ limit)) ⊎ ((e ≡ NoMemory) × (length events + 1 < limit))
-    → refuses_kept limit (followed_by [] events) c e
+    → refuses_recorded limit (followed_by [] events) c e
 refused_kept limit events c e other why = elim why [
-  | inl full ↦ subst (refuses_kept limit (followed_by [] events) c) (sym full.0) (
+  | inl full ↦ subst (refuses_recorded limit (followed_by [] events) c) (sym full.0) (
     ap (λ n. n + 1) (past_length events) ∙ full.1,
     other,
   )
-  | inr none ↦ subst (refuses_kept limit (followed_by [] events) c) (sym none.0) (
+  | inr none ↦ subst (refuses_recorded limit (followed_by [] events) c) (sym none.0) (
     let len = past_length events in omega (arith, len, none.1),
     other,
   )
@@ -41,7 +41,7 @@ refused_kept limit events c e other why = elim why [
 
 -- the condition under which a call is noted
 pub admitted_kept : (limit : ℕ) (log log' : Logged) (c : Call) (room : ℕ) → HasRoomFor limit log' c room
-    → log'.events ≡ log.events → admits_kept limit (followed_by [] log.events) c
+    → log'.events ≡ log.events → admits_recorded limit (followed_by [] log.events) c
 admitted_kept limit log log' c room has same = elim has.event [
   | inl shut ↦ inr shut
   | inr r ↦ inl (let len = past_length log.events in omega (arith, len, ap length same, r.0))

@@ -19,8 +19,8 @@ later e past (x ∷ more) =
     let other = ne_eqb (length past + 1) (length (more ++ e ∷ past) + 1) (λ s. absurd (omega (arith, s, h.1))) in
     (rw other h.0, omega (arith, h.1))
 
-pub stands : InRealTime
-stands e past after seen met is h k =
+pub matches : InRealTime
+matches e past after seen met is h k =
     let t = on (e ∷ past) seen met k (subst (Extends seen) is h) in
     subst (λ (m : Trace). (event_at m (length past + 1) ≡ Some e) × (length past < length m)) (sym t.1)
     (later e past t.0)

@@ -4,11 +4,11 @@ use Rattle.qshared.proofs.Common.{◌∙◌, cond, Bool, true, false, eqb, inl, 
 use Rattle.qshared.proofs.Common.{cases_Bool, eqb-true, eqb-false, eq-eqb, ne_eqb, true≢false, set-get_or, same_Some}
 use Rattle.qshared.proofs.Common.{some_of, IsRoster, Member, Call, Completion, AreApart, gets, GoesToBlocked, may_end}
 use Rattle.qshared.proofs.Common.{blocked_unless_ended, completions_are_apart, completions_go_to_blocked, open_call}
-use Rattle.qshared.proofs.Common.{with_event, among_member, known, is_blocked, Answers, StandsAt, State, KernelView}
+use Rattle.qshared.proofs.Common.{with_event, among_member, known, is_blocked, Answers, MatchesAt, State, KernelView}
 use Rattle.qshared.proofs.Common.{CellView, idle_line, line, opened_kernel_view, cancelled_kernel_view, line_else}
 use Rattle.qshared.proofs.Common.{line_here, AreLater, IsOwed, at_once, completions_due, in_turn, later_due, later_of}
 use Rattle.qshared.proofs.Common.{of_thread, place, Agrees, IsFree, MayPut, Handed, blocked_same, properties_of}
-use Rattle.qshared.proofs.Common.{stands_down}
+use Rattle.qshared.proofs.Common.{matches_down}
 use Rattle.qrules.proofs.Words.Facts.{threads_of}
 use Rattle.qmodel.specs.Trace.{Event, Trace}
 use Rattle.qrules.specs.Lawful.{IsLawful, facts_of}
@@ -58,7 +58,7 @@ module _ (roster : List Member) (kernel : State) (d : KernelView Completion) (pa
     served =
         record {
           known = among_member roster t (place_among (threads_of roster) t i at);
-          up = sym (stands_down roster kernel past told.stands) ∙ up;
+          up = sym (matches_down roster kernel past told.matches) ∙ up;
         };
     idle = sym (told.tied t i at).1 ∙ closed;
   }
@@ -169,13 +169,13 @@ module _ (roster : List Member) (kernel : State) (d : KernelView Completion) (pa
             record { later = subst (owed_later u) (sym other) r.0; whole = subst (owed_whole u) (sym other) r.1 }
       ]
 
-      module _ (new : State) (d' : KernelView Completion) (stands : StandsAt roster new (with_event t c X past))
+      module _ (new : State) (d' : KernelView Completion) (matches : MatchesAt roster new (with_event t c X past))
           (handed : Handed (threads_of roster) t X (opened_kernel_view d i) d') where
         pub told_after : Agrees roster new d' (with_event t c X past)
         told_after = record {
           lawful = lawful_after;
           properties = properties_of roster (with_event t c X past) lawful_after rises;
-          stands = stands;
+          matches = matches;
           tied = λ u j is. (
             handed.put u j is ∙ ap (λ ys. ys ++ later_of t u X) (open_puts d i j near ∙ (told.tied u j is).0),
             handed.opened u j is ∙ ap (λ b. cond (gets X u) false b) (opened_may u j is) ∙ sym (still_blocked u),

@@ -10,7 +10,7 @@ pub mod Naming
 pub mod Past
 pub mod Performing
 pub mod Private
-pub mod Rooms
+pub mod Recorded
 pub mod TwoCalls
 pub mod UnderLock
-pub mod Unkept
+pub mod Unrecorded

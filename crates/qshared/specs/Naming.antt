@@ -2,7 +2,7 @@
 use Rattle.std.specs.Prelude.{◌≡◌, ℕ, List, length, map}
 use mathlib.Core.Option.{some}
 use lib.ListN.{get_elem?}
-use Rattle.qkernel_state.specs.Kept.{members_of}
+use Rattle.qkernel_state.specs.Contents.{members_of}
 use Rattle.qhandoff.specs.Words.{cells_id}
 use Rattle.qshared.specs.Names.{Names}
 use Rattle.qshared.specs.declared.parts.Parts.{Parts}

@@ -7,7 +7,7 @@ use Rattle.qrules.specs.Facts.{threads_of}
 use Rattle.qrules.specs.Lawful.{IsLawful}
 use Rattle.qrules.specs.Properties.{HasProperties}
 use Rattle.qrules.specs.Trace.{Trace}
-use Rattle.qkernel.specs.Stands.{StandsAt}
+use Rattle.qkernel.specs.Matching.{MatchesAt}
 use Rattle.qkernel.specs.Kernel.{State}
 use Rattle.qhandoff.specs.declared.view.KernelView.{KernelView}
 use Rattle.qshared.specs.Due.{IsOwed, IsTied, place}
@@ -25,7 +25,7 @@ pub record Agrees (roster : List Member) (kernel : State) (d : KernelView Comple
     (past : Trace) : Type 0 where
   pub lawful : IsLawful roster past
   pub properties : HasProperties roster past
-  pub stands : StandsAt roster kernel past
+  pub matches : MatchesAt roster kernel past
   pub tied : IsTied roster d past
   pub owed : (t i : ℕ) → place (threads_of roster) t ≡ Some i → IsOwed roster past t
 

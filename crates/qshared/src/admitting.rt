@@ -2,7 +2,7 @@
 
 ghost use Rattle.std.specs.Prelude.{◌≡◌, ◌<◌, ◌≤◌, ◌+◌, ◌⊎◌, length, IfOk, IfErr, IfSome, ◌^◌};
 ghost use Rattle.qmodel.specs.declared.call.Call.TheVariants.{Shutdown};
-ghost use Rattle.qshared.specs.Private.Rooms.{HasRoomFor};
+ghost use Rattle.qshared.specs.Private.Recorded.{HasRoomFor};
 
 use crate::logged_copy::LoggedCopy;
 use crate::preallocated::Preallocated;

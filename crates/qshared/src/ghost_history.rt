@@ -44,7 +44,7 @@ impl<K: Tie> GhostHistory<K> {
 
 impl<K: Tie> Log for GhostHistory<K> {
     ghost use Rattle.std.specs.Prelude.{true};
-    ghost use Rattle.qshared.specs.Unkept.{admits_unkept, refuses_unkept};
+    ghost use Rattle.qshared.specs.Unrecorded.{admits_unrecorded, refuses_unrecorded};
 
     ghost roster = { λ _. K.names.roster };
 
@@ -54,9 +54,9 @@ impl<K: Tie> Log for GhostHistory<K> {
 
     ghost noted = { λ l. l.call.value };
 
-    ghost refuses = { refuses_unkept };
+    ghost refuses = { refuses_unrecorded };
 
-    ghost admits = { admits_unkept };
+    ghost admits = { admits_unrecorded };
 
     fn copies(_alloc: Global, _call: &Call) -> Option<LoggedCopy> {
         None

@@ -6,7 +6,7 @@ ghost use Rattle.qhandoff.specs.Steps.{put_kernel_view};
 ghost use Rattle.qhandoff.specs.Words.{cells_id, kernel_id, kernel_view, one};
 ghost use Rattle.qrules.specs.Trace.{AreApart};
 ghost use Rattle.qrules.specs.Facts.{threads_of};
-ghost use Rattle.qkernel_state.specs.Kept.{members_of};
+ghost use Rattle.qkernel_state.specs.Contents.{members_of};
 ghost use Rattle.qshared.specs.Due.{of_thread, place};
 ghost use Rattle.qshared.specs.Private.Putting.{MayPut, Handed};
 

@@ -9,7 +9,7 @@ ghost use Rattle.qrules.specs.Facts.{is_blocked};
 ghost use Rattle.qrules.specs.Lawful.{facts_of, IsLawful};
 ghost use Rattle.qrules.specs.Outcome.{Answers};
 ghost use Rattle.qrules.specs.Trace.{Trace};
-ghost use Rattle.qkernel_state.specs.Kept.{members_of};
+ghost use Rattle.qkernel_state.specs.Contents.{members_of};
 ghost use Rattle.qkernel_state.specs.Threads.{IsSeatIn};
 ghost use Rattle.qshared.specs.Past.{is_down};
 ghost use Rattle.qshared.specs.Performing.{Admits, Refuses};
@@ -24,7 +24,7 @@ use std::alloc::Global;
 
 /// A log by which a locked kernel keeps its history. A call is noted before it is made, and the log may
 /// refuse it. After the call was made, it is an event with its completions. `RecordedHistory` keeps the
-/// events in memory, and `Unkept` keeps none.
+/// events in memory, and `GhostHistory` keeps none.
 pub trait Log: Drop {
     /// The roster of the kernel.
     ghost roster: { Self → List Member };
@@ -43,7 +43,7 @@ pub trait Log: Drop {
     /// The condition under which the log notes a call.
     ghost admits: { Admits };
 
-    /// LoggedCopy a call for `note`, before the lock is taken. Returns `None` if the log needs no copy, or if
+    /// Copies a call for `note`, before the lock is taken. Returns `None` if the log needs no copy, or if
     /// the allocator refuses.
     fn copies(alloc: Global, call: &Call) -> Option<LoggedCopy>
         ensures copied { IfSome result (λ copies. copies ≡ call.now) };

@@ -3,8 +3,8 @@
 ghost use Rattle.std.specs.Prelude.{◌≡◌, ◌≤◌, ◌^◌, ◌⊎◌, ◌<◌, ℕ, [], length, map, IfOk, IfErr};
 ghost use lib.ListN.{get_elem?};
 ghost use Rattle.qrules.specs.Facts.{threads_of};
-ghost use Rattle.qkernel_state.specs.Kept.{members_of};
-ghost use Rattle.qkernel.specs.Stands.{StandsAt};
+ghost use Rattle.qkernel_state.specs.Contents.{members_of};
+ghost use Rattle.qkernel.specs.Matching.{MatchesAt};
 ghost use Rattle.qhandoff.specs.Steps.{seated_kernel_view};
 ghost use Rattle.qhandoff.specs.Words.{cells_id, kernel_id, count, kernel_view, took, IsRow};
 ghost use Rattle.qshared.specs.Asking.{asked_in, heard_in};
@@ -41,7 +41,7 @@ pub struct Parts {
         × (kernel_view seat ≡ seated_kernel_view (count cells) (count cells)) × (blank.parts ≡ count cells) },
     ghost row: { (length seats.items ≡ count cells) × IsRow (cells_id cells) seats.items
         × ((k : ℕ) → took (get_elem? seats.items k) ≡ []) },
-    ghost stands: { StandsAt (members_of kernel.threads) kernel [] },
+    ghost matches: { MatchesAt (members_of kernel.threads) kernel [] },
     ghost threads_are: { (threads.items ≡ threads_of (members_of kernel.threads))
         × (length threads.items ≡ count cells) },
     ghost bounded: { (2 ≤ limit) × (limit ≤ 2 ^ 20) },

@@ -5,9 +5,9 @@ ghost use Rattle.std.specs.List.{AllByRecursion};
 ghost use Rattle.qtables.specs.Members.{IsRoster};
 ghost use Rattle.qrules.specs.Trace.{AreApart};
 ghost use Rattle.qrules.specs.Facts.{threads_of};
-ghost use Rattle.qkernel_state.specs.Kept.{members_of};
+ghost use Rattle.qkernel_state.specs.Contents.{members_of};
 ghost use Rattle.qrules.specs.Trace.{followed_by};
-ghost use Rattle.qshared.specs.Private.Rooms.{MayCopy, Copied};
+ghost use Rattle.qshared.specs.Private.Recorded.{MayCopy, Copied};
 
 use crate::admitting::admit;
 use crate::handing::place_of;
@@ -45,8 +45,8 @@ impl<K: Tie> Model for RecordedHistory<K> {
     ghost use Rattle.std.specs.Prelude.{◌≡◌, []};
     ghost use Rattle.qrules.specs.Facts.{threads_of};
     ghost use Rattle.qrules.specs.Trace.{followed_by};
-    ghost use Rattle.qshared.specs.Rooms.{KeptPast};
-    ghost use Rattle.qshared.specs.Private.Rooms.{IsKept};
+    ghost use Rattle.qshared.specs.Recorded.{KeptPast};
+    ghost use Rattle.qshared.specs.Private.Recorded.{IsKept};
 
     ghost Value = { KeptPast };
 
@@ -163,7 +163,7 @@ impl<K: Tie> RecordedHistory<K> {
 }
 
 impl<K: Tie> Log for RecordedHistory<K> {
-    ghost use Rattle.qshared.specs.Rooms.{admits_kept, refuses_kept};
+    ghost use Rattle.qshared.specs.Recorded.{admits_recorded, refuses_recorded};
 
     ghost roster = { λ _. K.names.roster };
 
@@ -173,9 +173,9 @@ impl<K: Tie> Log for RecordedHistory<K> {
 
     ghost noted = { λ k. k.noted };
 
-    ghost refuses = { refuses_kept K.names.limit };
+    ghost refuses = { refuses_recorded K.names.limit };
 
-    ghost admits = { admits_kept K.names.limit };
+    ghost admits = { admits_recorded K.names.limit };
 
     fn copies(alloc: Global, call: &Call) -> Option<LoggedCopy> {
         LoggedCopy::of(alloc, call)

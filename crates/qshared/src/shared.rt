@@ -9,13 +9,13 @@ ghost use Rattle.qrules.specs.Facts.{threads_of};
 ghost use Rattle.qrules.specs.Lawful.{IsLawful};
 ghost use Rattle.qrules.specs.Trace.{followed_by};
 ghost use Rattle.qrules.specs.Properties.{HasProperties};
-ghost use Rattle.qkernel_state.specs.Kept.{members_of};
+ghost use Rattle.qkernel_state.specs.Contents.{members_of};
 ghost use Rattle.qhandoff.specs.Words.{cells_id, thread_of, taken, took, IsRow};
 ghost use Rattle.qshared.specs.Asking.{AreCallsOf, asked_in};
 ghost use Rattle.qshared.specs.Due.{AreDue, AreKnown, collected};
 ghost use Rattle.qshared.specs.Naming.{AreParts, AreAll};
 ghost use Rattle.qshared.specs.Past.{AreSeen, RiseByThread};
-ghost use Rattle.qshared.specs.Unkept.{HasPast};
+ghost use Rattle.qshared.specs.Unrecorded.{HasPast};
 
 use crate::asking::{KernelCalls, PortCalls};
 use crate::call_scratch::CallScratch;

@@ -4,10 +4,10 @@ ghost use Rattle.std.specs.Prelude.{◌≡◌, ◌<◌, ◌≤◌, ◌^◌, [], 
 ghost use Rattle.qrules.specs.Facts.{threads_of};
 ghost use Rattle.qrules.specs.Lawful.{IsLawful};
 ghost use Rattle.qrules.specs.Properties.{HasProperties};
-ghost use Rattle.qkernel_state.specs.Kept.{members_of};
+ghost use Rattle.qkernel_state.specs.Contents.{members_of};
 ghost use Rattle.qkernel_state.specs.Threads.{IsSeatIn};
 ghost use Rattle.qkernel.specs.LentCall.{call_lent};
-ghost use Rattle.qkernel.specs.Stands.{AnswersAtTraces, StandsAt};
+ghost use Rattle.qkernel.specs.Matching.{AnswersAtTraces, MatchesAt};
 ghost use Rattle.qhandoff.specs.Steps.{seated_kernel_view};
 ghost use Rattle.qshared.specs.History.{Extends};
 ghost use Rattle.qhandoff.specs.Words.{cells_id, kernel_id, kernel_view};
@@ -47,7 +47,7 @@ pub struct Traced<K: Tie, L: Log> {
 impl<K: Tie, L: Log> Model for Traced<K, L> {
     ghost use Rattle.std.specs.Prelude.{◌≡◌};
     ghost use Rattle.qrules.specs.Facts.{threads_of};
-    ghost use Rattle.qkernel_state.specs.Kept.{members_of};
+    ghost use Rattle.qkernel_state.specs.Contents.{members_of};
     ghost use Rattle.qhandoff.specs.Words.{kernel_id, kernel_view};
     ghost use Rattle.qshared.specs.UnderLock.{UnderLock, IsUnderLock};
 
@@ -141,7 +141,7 @@ impl<K: Tie, L: Log> Traced<K, L> {
         requires seat { (kernel_id seat ≡ K.names.cells)
             × (kernel_view seat ≡ seated_kernel_view K.names.cells.slots K.names.cells.slots) }
         requires roster { (members_of kernel.threads ≡ K.names.roster)
-            × StandsAt (members_of kernel.threads) kernel [] }
+            × MatchesAt (members_of kernel.threads) kernel [] }
         requires sized { length (threads_of (members_of kernel.threads)) ≡ K.names.cells.slots }
         ensures { result.past ≡ [] }
     {

@@ -30,7 +30,7 @@ info_nowhere s i none = ap (info_of (facts_in s)) none
 -- information from the kernel's content is right for every history that the kernel matches
 pub info_at_traces : (s : State) (i : ℕ) (told : Option Told) → IsRoster (members_of s.threads)
     → told ≡ info_of (facts_in s) (sender (facts_in s) i) → InfoAtTraces s i told
-info_at_traces s i told rises is roster past stands = is ∙ ap (λ f. info_of f (sender f i)) stands
+info_at_traces s i told rises is roster past matches = is ∙ ap (λ f. info_of f (sender f i)) matches
 
 -- there is information about a held message
 told_some : (channels : List (ℕ × Channel)) (p : ℕ) (m : Member) (o : Option OpenCall)

@@ -32,7 +32,7 @@ fn push_blocked(list: &mut Vec<Blocked>, thread: &Thread) -> Result<(), AllocErr
 }
 
 impl Kernel {
-    ghost use Rattle.qkernel.specs.Stands.{StandsAt};
+    ghost use Rattle.qkernel.specs.Matching.{MatchesAt};
 
     /// Returns whether the thread is blocked. Returns `false` if it isn't in the roster.
     pub fn is_blocked(&self, thread: ThreadNo) -> bool
@@ -47,7 +47,7 @@ impl Kernel {
     /// Returns the blocked threads, in ascending order of their numbers, for a report of how a run ended.
     /// Only the list takes memory.
     pub fn blocked(&self, alloc: Global) -> Result<Vec<Blocked>, AllocError>
-        ensures { (roster : List Member) (past : Trace) → StandsAt roster self.now past
+        ensures { (roster : List Member) (past : Trace) → MatchesAt roster self.now past
             → IfOk result (λ list. list.items ≡ blocked_threads (facts_of roster past)) }
     {
         let mut list = Vec::new(alloc);

@@ -8,7 +8,7 @@ use qkernel_state::completions::{Completions, put};
 use qmodel::call::{Call, Info, Mark};
 
 impl Kernel {
-    ghost use Rattle.qkernel.specs.Stands.{InfoAtTraces};
+    ghost use Rattle.qkernel.specs.Matching.{InfoAtTraces};
     ghost use Rattle.qkernel.specs.Private.Caller.{MayCall, MakesOrRefuses};
 
     /// Returns the result that an `Info` would have for a held message, or `None` if no message is held under

@@ -3,7 +3,7 @@
 ghost use Rattle.std.specs.Prelude.{◌≡◌, ◌+◌, ◌<◌, ◌≤◌, ◌^◌, [], length, IfErr, OnErr, OnOk};
 ghost use Rattle.qkernel_state.specs.Thread.{blocked_count};
 ghost use Rattle.qkernel_state.specs.Threads.{IsSeatIn};
-ghost use Rattle.qkernel_state.specs.Kept.{members_of};
+ghost use Rattle.qkernel_state.specs.Contents.{members_of};
 ghost use Rattle.qkernel.specs.LentCall.{call_lent};
 
 use super::call_context::CallContext;
@@ -17,7 +17,7 @@ use qkernel_state::thread_ref::ThreadRef;
 impl Kernel {
     ghost use Rattle.qkernel.specs.Kernel.{IsSound};
     ghost use Rattle.qkernel.specs.Private.Steps.{Steps};
-    ghost use Rattle.qkernel.specs.Stands.{AnswersAtTraces, LeavesIfRefused};
+    ghost use Rattle.qkernel.specs.Matching.{AnswersAtTraces, LeavesIfRefused};
     ghost use Rattle.qkernel.specs.Private.Caller.{MayCall, MakesOrRefuses};
 
     /// Makes a call by its own method, after `refusal` found no error and the call was counted. On an `Err`

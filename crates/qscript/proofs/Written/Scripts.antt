@@ -3,7 +3,7 @@ use Rattle.qscript.proofs.Common.{All, All-cons, All-nil, AllByRecursion, Call, 
 use Rattle.qscript.proofs.Common.{MayStand, Member, Ok, ScriptsAreRead, Stands, [], add-zero, ap, append-nil}
 use Rattle.qscript.proofs.Common.{append_assoc, arith, call_line, cons_option, event_call, false, flat_map, is_text}
 use Rattle.qscript.proofs.Common.{length, length-append, list_all, lt-leb, map, member_line, nat_lt, not_long, refl}
-use Rattle.qscript.proofs.Common.{slice_index, stands_first, stands_last, stands_more, suc, true, zero, ℕ, ◌++◌, ◌+◌}
+use Rattle.qscript.proofs.Common.{slice_index, matches_first, matches_last, matches_more, suc, true, zero, ℕ, ◌++◌, ◌+◌}
 use Rattle.qscript.proofs.Common.{◌-◌, ◌<◌, ◌==◌, ◌∙◌, ◌∷◌, ◌≡◌}
 use Rattle.std.proofs.lemmas.Bool.Decides.{nat_tests}
 use Rattle.qscript_text.specs.declared.reading.line.ScriptLine.{ScriptLine}
@@ -28,14 +28,14 @@ no_return_at (x ∷ xs) zero h = grind (arith, nat_tests)
 no_return_at (x ∷ xs) (suc k) h = grind (arith, no_return_at xs k)
 
 -- the rest of a text after a line with this content has been read
-line_stands : (text line after : List ℕ) (n : ℕ) (roster : List Member) (cs : List (ℕ × Call)) (l : ScriptLine)
+line_matches : (text line after : List ℕ) (n : ℕ) (roster : List Member) (cs : List (ℕ × Call)) (l : ScriptLine)
     → list_all is_text line ≡ true → line_with roster cs line ≡ Ok l
     → Stands text ((line ++ 10 ∷ []) ++ after) n roster cs
     → Stands text after (n + 1) (roster ++ cons_option (member_in (Ok l)) []) (cs ++ cons_option (call_in (Ok l)) [])
-line_stands text line after n roster cs l h said s =
+line_matches text line after n roster cs l h said s =
     let whole : without_return line ≡ line = rw (no_return_at line (length line - 1) h) refl in
     let first = lines_at line 10 after (no_ends line h) refl ∙ ap (λ l. l ∷ lines_of after) whole in
-    stands_more text (line ++ 10 ∷ after) after line n roster cs (rw append_assoc at s) first
+    matches_more text (line ++ 10 ∷ after) after line n roster cs (rw append_assoc at s) first
     (simp length-append (omega arith)) l said
 
 -- ---- calls
@@ -52,7 +52,7 @@ calls_stand : (text : List ℕ) (roster : List Member) (events : List Event) (n 
     → Stands text [] (n + length events) roster (cs ++ map event_call events)
 calls_stand text roster [] n cs h s = rw (add-zero, append-nil) s
 calls_stand text roster (e ∷ events) n cs h s =
-    let next = line_stands text (call_line e.thread e.call) (flat_map call_text events) n roster cs
+    let next = line_matches text (call_line e.thread e.call) (flat_map call_text events) n roster cs
     (lines.Call e.thread e.call) (call_line_text e.thread e.call h.0.1 h.0.2) (call_with roster cs e h.0) s in
     let place : n + 1 + length events ≡ n + length (e ∷ events) = omega arith in
     rw (append_assoc cs (event_call e ∷ []) (map event_call events), place) at
@@ -73,7 +73,7 @@ members_stand : (text back : List ℕ) (before members : List Member) (n : ℕ) 
 members_stand text back before [] n may h s = rw (add-zero, append-nil) s
 members_stand text back before (m ∷ members) n may h s =
     let here = rw (append_assoc (member_text m) (flat_map member_text members) back) at s in
-    let next = line_stands text (member_line m) (flat_map member_text members ++ back) n before [] (lines.Roster m)
+    let next = line_matches text (member_line m) (flat_map member_text members ++ back) n before [] (lines.Roster m)
     (member_line_text m h.0) (member_with before m may.0 may.1 h.0) here in
     let place : n + 1 + length members ≡ n + length (m ∷ members) = omega arith in
     rw (append_assoc before (m ∷ []) members, place) at
@@ -85,7 +85,7 @@ pub scripts_are_read : ScriptsAreRead
 unfolding script_text
 scripts_are_read roster events may typed writable short =
     let text = flat_map member_text roster ++ flat_map call_text events in
-    let threads = members_stand text (flat_map call_text events) [] roster 0 may typed (stands_first text) in
+    let threads = members_stand text (flat_map call_text events) [] roster 0 may typed (matches_first text) in
     let all = calls_stand text roster events (0 + length roster) [] writable threads in
-    not_long text short ∙ stands_last text [] (0 + length roster + length events) roster (map event_call events) all
+    not_long text short ∙ matches_last text [] (0 + length roster + length events) roster (map event_call events) all
     (lines_none [] refl)

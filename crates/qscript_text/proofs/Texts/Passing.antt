@@ -4,7 +4,7 @@ use Rattle.qscript_text.proofs.Common.{length, take, get_or, refl, sym, ap, ◌�
 use Rattle.qscript_text.proofs.Common.{Err, nat_lt, nat_le, length-append, cons_option, filter_map, le-ltb}
 use Rattle.qscript_text.proofs.Common.{common_steps, take-append-le, get_or_append_left, get_or-append-add}
 use Rattle.qscript_text.proofs.Common.{filter_map-append, take-append_seam, take-append-add, get_or-append_seam, Member}
-use Rattle.qscript_text.proofs.Common.{Call, Line, LineFault, words_of, is_passed_over, IsPassedOver}
+use Rattle.qscript_text.proofs.Common.{Call, ScriptLine, LineFault, words_of, is_passed_over, IsPassedOver}
 use Rattle.qscript_text.proofs.Common.{meaning_one_line_later}
 use Rattle.std.specs.Option.{option_or}
 use Rattle.qbase.proofs.Lists.{or_none}
@@ -77,12 +77,13 @@ unfolding shifted
 shifted_else k None b = refl
 shifted_else k (Some x) b = refl
 
-fault_before : (k n : ℕ) (r : Result Line LineFault) → n < k → shifted k (fault_in n r) ≡ fault_in n r
+fault_before : (k n : ℕ) (r : Result ScriptLine LineFault) → n < k → shifted k (fault_in n r) ≡ fault_in n r
 unfolding shifted
 fault_before k n (Ok l) lt = refl
 fault_before k n (Err f) lt = let yes_lt : nat_lt n k ≡ true = grind (arith, common_steps) in rw yes_lt
 
-fault_behind : (k n m : ℕ) (r : Result Line LineFault) → k ≤ n → m ≡ n + 1 → fault_in m r ≡ shifted k (fault_in n r)
+fault_behind : (k n m : ℕ) (r : Result ScriptLine LineFault) → k ≤ n → m ≡ n + 1 → fault_in m r
+    ≡ shifted k (fault_in n r)
 unfolding shifted
 fault_behind k n m (Ok l) le e = refl
 fault_behind k n m (Err f) le e = rw (le-ltb n k le, e)

@@ -2,7 +2,8 @@
 use Rattle.qscript_text.proofs.Common.{◌≡◌, ℕ, zero, suc, ◌+◌, ◌-◌, ◌<◌, ◌≤◌, List, [], ◌∷◌, ◌++◌, false, length, take}
 use Rattle.qscript_text.proofs.Common.{drop, get_or, refl, sym, ap, ◌∙◌, arith, Option, Some, None, Result, Ok, Err}
 use Rattle.qscript_text.proofs.Common.{add-one, add-zero, add-suc, cons_option, le-ltb, take_more, take_all, drop_more}
-use Rattle.qscript_text.proofs.Common.{length-drop, filter_map-append, Member, Call, Line, LineFault, Fails, lines_of}
+use Rattle.qscript_text.proofs.Common.{length-drop, filter_map-append, Member, Call, ScriptLine, LineFault, Fails}
+use Rattle.qscript_text.proofs.Common.{lines_of}
 use Rattle.qscript_text.specs.declared.fault.ParseError.{ParseError}
 use Rattle.qscript_text.specs.declared.fault.ParseError.TheVariants as errors
 use Rattle.qscript_text.specs.declared.fault.ScriptFault.{ScriptFault}
@@ -27,28 +28,29 @@ reads_none ls = record { roster = refl; calls = refl; clean = refl }
 
 -- the next line, as the loop reads it
 next_line : (ls : List (List ℕ)) (n : ℕ) (ms : List Member) (cs : List (ℕ × Call)) → Reads ls n ms cs
-    → (r : Result Line LineFault) → line_with ms cs (get_or ls n []) ≡ r → line_after (take n ls) (get_or ls n []) ≡ r
+    → (r : Result ScriptLine LineFault) → line_with ms cs (get_or ls n []) ≡ r → line_after (take n ls) (get_or ls n [])
+    ≡ r
 unfolding line_after
 next_line ls n ms cs h r e = rw (← h.roster, ← h.calls) e
 
 -- the next line has no fault
 no_fault : (ls : List (List ℕ)) (n : ℕ) (ms : List Member) (cs : List (ℕ × Call)) → Reads ls n ms cs
-    → (l : Line) → line_with ms cs (get_or ls n []) ≡ Ok l → first_fault ls (n + 1) ≡ None
+    → (l : ScriptLine) → line_with ms cs (get_or ls n []) ≡ Ok l → first_fault ls (n + 1) ≡ None
 unfolding first_fault
 no_fault ls n ms cs h l e = rw (add-one, h.clean, next_line ls n ms cs h (Ok l) e)
 
-pub roster_more : (ls : List (List ℕ)) (n : ℕ) (l : Line) → n < length ls → line_of false (get_or ls n []) ≡ Ok l
+pub roster_more : (ls : List (List ℕ)) (n : ℕ) (l : ScriptLine) → n < length ls → line_of false (get_or ls n []) ≡ Ok l
     → roster_of (take (n + 1) ls) ≡ roster_of (take n ls) ++ cons_option (member_in (Ok l)) []
 unfolding roster_of
 roster_more ls n l h e = rw (take_more ls n [] h, filter_map-append, e)
 
-pub calls_more : (ls : List (List ℕ)) (n : ℕ) (l : Line) → n < length ls → line_of false (get_or ls n []) ≡ Ok l
+pub calls_more : (ls : List (List ℕ)) (n : ℕ) (l : ScriptLine) → n < length ls → line_of false (get_or ls n []) ≡ Ok l
     → calls_of (take (n + 1) ls) ≡ calls_of (take n ls) ++ cons_option (call_in (Ok l)) []
 unfolding calls_of
 calls_more ls n l h e = rw (take_more ls n [] h, filter_map-append, e)
 
 reads_more : (ls : List (List ℕ)) (n : ℕ) (ms : List Member) (cs : List (ℕ × Call)) → Reads ls n ms cs → n < length ls
-    → (l : Line) → line_with ms cs (get_or ls n []) ≡ Ok l
+    → (l : ScriptLine) → line_with ms cs (get_or ls n []) ≡ Ok l
     → Reads ls (n + 1) (ms ++ cons_option (member_in (Ok l)) []) (cs ++ cons_option (call_in (Ok l)) [])
 reads_more ls n ms cs h lt l e =
     let a = alone ms cs (get_or ls n []) l e in
@@ -94,8 +96,8 @@ pub record Stands (text rest : List ℕ) (n : ℕ) (ms : List Member) (cs : List
   pub few : n ≤ length (lines_of text)
   pub room : n + length rest ≤ length text
 
-pub stands_first : (text : List ℕ) → Stands text text 0 [] []
-stands_first text = record { reads = reads_none (lines_of text); left = refl; few = omega arith; room = omega arith }
+pub matches_first : (text : List ℕ) → Stands text text 0 [] []
+matches_first text = record { reads = reads_none (lines_of text); left = refl; few = omega arith; room = omega arith }
 
 -- the next line of the text is the first line of the rest
 at_front : (ls : List (List ℕ)) (n : ℕ) (line : List ℕ) (behind : List (List ℕ)) → drop n ls ≡ line ∷ behind
@@ -105,12 +107,12 @@ at_front ls n line behind e =
     let both : (get_or ls n [] ∷ drop (n + 1) ls) ≡ line ∷ behind = sym (drop_more ls n [] lt) ∙ e in
     (lt, (cc), (cc))
 
-pub stands_more : (text rest after line : List ℕ) (n : ℕ) (ms : List Member) (cs : List (ℕ × Call))
+pub matches_more : (text rest after line : List ℕ) (n : ℕ) (ms : List Member) (cs : List (ℕ × Call))
     → Stands text rest n ms cs
     → lines_of rest ≡ line ∷ lines_of after → length after < length rest
-    → (l : Line) → line_with ms cs line ≡ Ok l
+    → (l : ScriptLine) → line_with ms cs line ≡ Ok l
     → Stands text after (n + 1) (ms ++ cons_option (member_in (Ok l)) []) (cs ++ cons_option (call_in (Ok l)) [])
-stands_more text rest after line n ms cs h e less l said =
+matches_more text rest after line n ms cs h e less l said =
     let front = at_front (lines_of text) n line (lines_of after) (sym h.left ∙ e) in
     record {
       reads = reads_more (lines_of text) n ms cs h.reads front.0 l (rw front.1 said);
@@ -119,17 +121,17 @@ stands_more text rest after line n ms cs h e less l said =
       room = omega (arith, h.room);
     }
 
-pub stands_err : (text rest after line : List ℕ) (n : ℕ) (ms : List Member) (cs : List (ℕ × Call))
+pub matches_err : (text rest after line : List ℕ) (n : ℕ) (ms : List Member) (cs : List (ℕ × Call))
     → Stands text rest n ms cs
     → lines_of rest ≡ line ∷ lines_of after
     → (e : ParseError) → Fails e (line_with ms cs line) → IsFaultOf (of_line (n + 1) e) (of_lines (lines_of text))
-stands_err text rest after line n ms cs h e error k =
+matches_err text rest after line n ms cs h e error k =
     let front = at_front (lines_of text) n line (lines_of after) (sym h.left ∙ e) in
     reads_err (lines_of text) n ms cs h.reads front.0 error (rw front.1 k)
 
-pub stands_last : (text rest : List ℕ) (n : ℕ) (ms : List Member) (cs : List (ℕ × Call)) → Stands text rest n ms cs
+pub matches_last : (text rest : List ℕ) (n : ℕ) (ms : List Member) (cs : List (ℕ × Call)) → Stands text rest n ms cs
     → lines_of rest ≡ [] → of_lines (lines_of text) ≡ Says ms cs
-stands_last text rest n ms cs h e =
+matches_last text rest n ms cs h e =
     reads_all (lines_of text) n ms cs h.reads
     (omega (arith, h.few, length-drop n (lines_of text), ap length (sym h.left ∙ e)))
 

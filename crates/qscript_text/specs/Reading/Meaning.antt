@@ -113,12 +113,12 @@ meaning text = if nat_lt most_text (length text) then TooLong else of_lines (lin
 -- the error of a script, given the error of the line of this number
 abbrev pub of_line : ℕ → ParseError → ScriptFault
 of_line n errors.Memory = faults.NoMemory
-of_line n (errors.Fault f) = faults.ScriptLine n f
+of_line n (errors.Fault f) = faults.Line n f
 
 -- the error is the fault of the text, or memory ran out
 abbrev pub IsFaultOf : ScriptFault → Meaning → Type 0
 IsFaultOf faults.TooLong m = m ≡ TooLong
-IsFaultOf (faults.ScriptLine n f) m = m ≡ Faulty n f
+IsFaultOf (faults.Line n f) m = m ≡ Faulty n f
 IsFaultOf faults.NoMemory m = Unit {0}
 IsFaultOf faults.Read m = ⊥
 IsFaultOf faults.Write m = ⊥

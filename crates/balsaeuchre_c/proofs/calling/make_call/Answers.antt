@@ -5,7 +5,7 @@ use Rattle.balsaeuchre_c.proofs.Common.{told_bytes, true, with_event, ℕ, ◌�
 use Rattle.balsaeuchre_c.proofs.Holding.{received_told}
 use Rattle.balsaeuchre_c.proofs.Restoring.{all_at, restored}
 use Rattle.balsaeuchre_c.proofs.Tellings.{told_in_room}
-use Rattle.qkernel.proofs.Traces.{properties_of, stands_roster}
+use Rattle.qkernel.proofs.Traces.{properties_of, matches_roster}
 use Rattle.balsaeuchre_c.proofs.calling.make_call.Goals as goal
 
 pub returns-clause-event : goal.returns-clause-event
@@ -20,9 +20,9 @@ returns-clause-event c =
     -- the rows have the data that `Info` would return for the messages that the event received, and restore
     -- all buffers
     let written : OfEachRow (λ roster past e row. Informs roster past e row × Restores c.tell.new.bytes past e row)
-    c.args.session.now.kernel t made.call X c.tell.new.rows = λ roster past lawful stands place e row so at.
-    let a = made.answers roster past lawful stands in
-    let same = stands_roster roster c.args.session.now.kernel past stands in
+    c.args.session.now.kernel t made.call X c.tell.new.rows = λ roster past lawful matches place e row so at.
+    let a = made.answers roster past lawful matches in
+    let same = matches_roster roster c.args.session.now.kernel past matches in
     let rises : IsRoster roster = subst IsRoster same made.sound.roster in
     let member : is_some (member_at roster t) ≡ true = subst (λ r. is_some (member_at r t) ≡ true) same made.known in
     let count : ℕ = laid_count ob (start_of X ob place) (told_bytes e) in

@@ -1,5 +1,5 @@
-use Rattle.balsaeuchre_examples.proofs.Common.{StandsAt, [], subst}
+use Rattle.balsaeuchre_examples.proofs.Common.{MatchesAt, [], subst}
 use Rattle.balsaeuchre_examples.proofs.carried.kernel_of_four.Goals as goal
 
 pub returns : goal.returns
-returns c = subst (λ r. StandsAt r c.in_ok-new.field-0 []) c.in_ok-roster.ensures c.in_ok-new.ensures.stands
+returns c = subst (λ r. MatchesAt r c.in_ok-new.field-0 []) c.in_ok-roster.ensures c.in_ok-new.ensures.matches

@@ -1,11 +1,11 @@
-use Rattle.qhandoff.proofs.Common.{◌<◌, ℕ, [], rules, arith, subst, ap, ◌∙◌, Kernel, hand_in, kernel_view_in}
+use Rattle.qhandoff.proofs.Common.{◌<◌, ℕ, [], rules, arith, subst, ap, ◌∙◌, Kernel, thread_view_in, kernel_view_in}
 use Rattle.qhandoff.proofs.Common.{joined_views, joined_at}
 use Rattle.qhandoff.proofs.Settling.{join_allowed}
 use Rattle.qhandoff.proofs.closing.join_one.Goals as goal
 
 pub join_seat-requires : goal.join_seat-requires
 join_seat-requires g c = let k = c.args.other.knows in
-    let h = hand_in c.args.other.seat.me.0 in
+    let h = thread_view_in c.args.other.seat.me.0 in
     let n : ℕ = c.args.shared.now.table_id.slots in
     let near : c.args.other.thread < n = subst (λ z. c.args.other.thread < z.slots) c.requires.other k.1 in
     let near' : h.thread < n = omega (arith, k.2) in (
@@ -22,7 +22,7 @@ join_seat-requires g c = let k = c.args.other.knows in
 
 pub returns : goal.returns
 returns g c = let k = c.args.other.knows in
-    let h = hand_in c.args.other.seat.me.0 in
+    let h = thread_view_in c.args.other.seat.me.0 in
     let d = kernel_view_in c.args.seat.now.me.0 in
     let e = c.join_seat.ensures in (
       search rules,

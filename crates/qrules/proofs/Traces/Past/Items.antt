@@ -243,9 +243,9 @@ items_on roster past h = map (λ m. m.item) (filter (λ m. eqb m.channel h) (ite
 abbrev pub Stands : List Member → Trace → ℕ → Item → Type 0
 Stands roster past h item = item_at roster past item.number ≡ Some (record { item = item; channel = h })
 
-pub stands_all : (roster : List Member) (past : Trace) (h : ℕ)
+pub matches_all : (roster : List Member) (past : Trace) (h : ℕ)
     → AllByRecursion (Stands roster past h) (items_on roster past h)
-stands_all roster past h =
+matches_all roster past h =
     all_map (Stands roster past h) (λ m. m.item) (filter (λ m. eqb m.channel h) (items roster past))
     (all_more (λ (m : SentItem). (item_at roster past m.item.number ≡ Some m) × (eqb m.channel h ≡ true))
     (λ (m : SentItem). Stands roster past h m.item) (filter (λ m. eqb m.channel h) (items roster past))
@@ -279,7 +279,7 @@ standing_is roster past h item at stays = record { first = item; made = at; what
 
 pub staying_all : (roster : List Member) (past : Trace) (h : ℕ)
     → AllByRecursion (λ item. Stands roster past h item × (is_gone past item ≡ false)) (staying roster past h)
-staying_all roster past h = grind (arith, all_more, all_passing (Stands roster past h), stands_all roster past h)
+staying_all roster past h = grind (arith, all_more, all_passing (Stands roster past h), matches_all roster past h)
 
 -- a statement that holds for the current form of each item that isn't gone holds for all queued items
 pub pending_each : (P : Item → Type 0) (roster : List Member) (past : Trace) (h : ℕ)

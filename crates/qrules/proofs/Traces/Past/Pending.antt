@@ -11,7 +11,8 @@ use Rattle.qrules.proofs.Basics.{receipt_of, Received, facts_of, IsLawful, with_
 use Rattle.qrules.proofs.Basics.{items, item_of, pending_items, copied_count_of, made_on, makes, sets, is_cancelled}
 use Rattle.qrules.proofs.Basics.{uncancelled_items, items_with_priority_set, unreceived_items, pending_after}
 use Rattle.qrules.proofs.Basics.{IsReceived, call_laws, laws_of, accepted, refused, refused_ends, ended_below, ends_own}
-use Rattle.qrules.proofs.Basics.{IsPending, Stands, items_on, pending_is, stands_all, standing_is, staying, staying_all}
+use Rattle.qrules.proofs.Basics.{IsPending, Stands, items_on, pending_is, matches_all, standing_is, staying}
+use Rattle.qrules.proofs.Basics.{staying_all}
 use Rattle.qrules.proofs.Basics.{item_at, item_below, now, refused_sets_none, worth_newest, worth_stays, open_below}
 use Rattle.qrules.proofs.Basics.{threads_of}
 use Rattle.qrules.proofs.Traces.Past.Channels.{closed_accepted, closed_refused}
@@ -57,7 +58,7 @@ pending_refused roster past t c X h a =
     ap (filter stays) same
     ∙ filter_same stays (λ item. not (is_gone past item)) (items_on roster past h) (
     all_more (Stands roster past h) (λ item. stays item ≡ not (is_gone past item)) (items_on roster past h)
-    (stands_all roster past h) (λ item at.
+    (matches_all roster past h) (λ item at.
     let below : item.number ≤ length past = item_below roster past item.number _ at in
     rw (
       refused_receipts (facts_of roster past) t c X item.number a,
@@ -118,7 +119,7 @@ pending_old roster past t c X h l member a =
     (receipt_of (facts_of roster past) t c) item) in
     filter_same stays both (items_on roster past h) (
     all_more (Stands roster past h) (λ item. stays item ≡ both item) (items_on roster past h)
-    (stands_all roster past h) (λ item at.
+    (matches_all roster past h) (λ item at.
     grind (
       arith,
       stays_gone past t c X item,

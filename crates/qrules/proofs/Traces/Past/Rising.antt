@@ -4,7 +4,7 @@ use Rattle.qrules.proofs.Common.{true, false, eqb, AllByRecursion, IsRising, Ite
 use Rattle.qrules.proofs.Common.{all_map, all_more, Option, None, Some}
 use Rattle.std.proofs.lemmas.List.{append-nil}
 use Rattle.qqueue.proofs.RisingLaws.{IsRising-push, IsRising-filter}
-use Rattle.qrules.proofs.Basics.{item_of, pending_items, made_on, IsPending, Stands, items_on, stands_all, staying}
+use Rattle.qrules.proofs.Basics.{item_of, pending_items, made_on, IsPending, Stands, items_on, matches_all, staying}
 use Rattle.qrules.proofs.Basics.{pending_all, pending_is, item_below, made_by, now}
 use Rattle.qrules.proofs.Traces.Past.Pending.{items_more}
 
@@ -25,7 +25,7 @@ items_rise roster (e ∷ past) h =
     subst IsRising (sym (items_more roster e past h))
     (rising_made (items_on roster past h) h (item_of roster e past) (items_rise roster past h) (λ m is.
     let number : m.item.number ≡ length past + 1 = (made_by roster e past m is).number in
-    all_more (Stands roster past h) (λ y. y.number < m.item.number) (items_on roster past h) (stands_all roster past h)
+    all_more (Stands roster past h) (λ y. y.number < m.item.number) (items_on roster past h) (matches_all roster past h)
     (λ y at.
     let below : y.number ≤ length past = item_below roster past y.number _ at in omega arith)))
 

@@ -19,10 +19,10 @@ use Rattle.qrules.proofs.Traces.Properties.Connections.{IsMadeFor, takeable_made
 -- ---- a received item was made
 
 -- a received item was made for the channel of the receive
-pub taken_stands : (roster : List Member) (past : Trace) (e : Event) (x : Completion) (i : ℕ)
+pub taken_matches : (roster : List Member) (past : Trace) (e : Event) (x : Completion) (i : ℕ)
     (k : TakesBest roster past e x i) → (m : SentItem) × (item_at roster (e ∷ past) i ≡ Some m) × (m.item.number ≡ i)
     × (m.channel ≡ k.request.channel)
-taken_stands roster past e x i k =
+taken_matches roster past e x i k =
     elim (best_of k.request.kind (takeable roster past e k.request.channel))
     as (λ o. best_of k.request.kind (takeable roster past e k.request.channel) ≡ o
     → option_map (λ item. item.number) o ≡ Some i
@@ -33,12 +33,12 @@ taken_stands roster past e x i k =
           best-at (IsMadeFor roster (e ∷ past) k.request.channel) k.request.kind
           (takeable roster past e k.request.channel) item (takeable_made roster past e k.request.channel) is in
           let number : item.number ≡ i = same_Some item.number i at in
-          let stands =
+          let matches =
           subst (λ j. item_at roster (e ∷ past) j ≡ Some (record { item = made.0; channel = k.request.channel }))
           number made.1 in (
             record { item = made.0; channel = k.request.channel },
-            stands,
-            (item_made roster (e ∷ past) i _ stands).makes_it.number,
+            matches,
+            (item_made roster (e ∷ past) i _ matches).makes_it.number,
             refl,
           )
     ] refl k.best
@@ -68,7 +68,7 @@ taken_made roster (e ∷ past) i r l taken =
         → AllByRecursion (λ x. (j : ℕ) → number_received x ≡ Some j → (m : SentItem)
         × (item_at roster (e ∷ past) j ≡ Some m)) X
     all_of [] all = tt
-    all_of (x ∷ X) all = (λ j is. let s = taken_stands roster past e x j (all.0 j is) in (s.0, s.1), all_of X all.1)
+    all_of (x ∷ X) all = (λ j is. let s = taken_matches roster past e x j (all.0 j is) in (s.0, s.1), all_of X all.1)
 
 -- ---- the call that made the item, if it hasn't completed, is the open call of its thread
 

@@ -1,5 +1,5 @@
-use Rattle.qshared.proofs.Seeing.{stands}
+use Rattle.qshared.proofs.Seeing.{matches}
 use Rattle.qshared.proofs.history_laws.in_real_time.Goals as goal
 
 pub returns : goal.returns
-returns c = stands
+returns c = matches

@@ -1,4 +1,4 @@
-use Rattle.qhandoff.proofs.Common.{rules, Some, refl, hand_in}
+use Rattle.qhandoff.proofs.Common.{rules, Some, refl, thread_view_in}
 use Rattle.qhandoff.proofs.Allowed.{take_allowed, give_allowed}
 use Rattle.qhandoff.proofs.Rests.{in_poll, after_poll, carries, thread_rests}
 use Rattle.qhandoff.proofs.seats.ThreadSeat.poll.Goals as goal
@@ -30,6 +30,6 @@ invariant_of-self-2 g c = let k = c.args.self.now.knows in
     record {
       knows =
           thread_rests c.store.new.seat _ _
-          (after_poll _ _ (hand_in c.args.self.now.seat.me.0) _ a.0
+          (after_poll _ _ (thread_view_in c.args.self.now.seat.me.0) _ a.0
           (in_poll _ _ _ _ _ _ a.0 k.0 a.1 c.exchange-completion.ensures.3) c.store.ensures.2) (search rules) k.2 refl;
     }

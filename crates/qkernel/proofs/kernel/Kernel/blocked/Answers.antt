@@ -12,7 +12,7 @@ loop-thread-preserved c =
     (omega (arith, c.loop-thread-test.true, c.loop-thread.auto.thread-index-end)))
 
 pub returns : goal.returns
-returns c roster past stands =
+returns c roster past matches =
     let threads : c.records-thread-items.result.now ≡ c.args.self.now.threads = c.records-thread-items.ensures
     ∙ ap (λ s. s.threads) c.self.view_is in
     let rises : IsRoster (members_of c.args.self.now.threads) = rw (← c.self.view_is) c.self.invariant.roster in
@@ -20,4 +20,4 @@ returns c roster past stands =
       c.loop-thread.invariant,
       take_all c.loop-thread.thread-index c.records-thread-items.result.now (omega (arith, c.loop-thread-test.false)),
       threads,
-    ) (blocked_now roster c.args.self.now past rises stands)
+    ) (blocked_now roster c.args.self.now past rises matches)

@@ -1,4 +1,4 @@
-use Rattle.qkernel.proofs.Standing.{sound_new, stands_new}
+use Rattle.qkernel.proofs.Standing.{sound_new, matches_new}
 use Rattle.qkernel.proofs.kernel.Kernel.new.Goals as goal
 
 pub invariant_of-result : goal.invariant_of-result
@@ -6,6 +6,7 @@ invariant_of-result c =
     rw (c.new-2.ensures, c.new-3.ensures, c.in-Ok.ensures.threads)
     (sound_new c.args.roster.now c.in-Ok.ensures.few c.in-Ok.ensures.rising)
 
-pub returns-clause-stands : goal.returns-clause-stands
-returns-clause-stands c =
-    rw (c.new-2.ensures, c.new-3.ensures, c.in-Ok.ensures.threads) (stands_new c.args.roster.now c.in-Ok.ensures.rising)
+pub returns-clause-matches : goal.returns-clause-matches
+returns-clause-matches c =
+    rw (c.new-2.ensures, c.new-3.ensures, c.in-Ok.ensures.threads)
+    (matches_new c.args.roster.now c.in-Ok.ensures.rising)

@@ -4,7 +4,7 @@ use Rattle.qscript_chart.proofs.Changing.{told_changes}
 use Rattle.qscript_chart.proofs.run.RunFacts.next_row.Goals as goal
 
 pub returns-clause-changes : goal.returns-clause-changes
-returns-clause-changes c roster past now stood stands =
+returns-clause-changes c roster past now matched matches =
     let old = c.args.run.now.kernel in
     let new = c.make.new.self.kernel in
     let began : IsRoster (members_of old.threads) =
@@ -17,4 +17,4 @@ returns-clause-changes c roster past now stood stands =
     c.in_ok-changes_since.ensures
     ∙ ap (λ levels. filter_map (change_since levels) c.as_slice-2.result.now) before
     ∙ ap (filter_map (change_since (map level_of old.threads))) after
-    ∙ told_changes old new rises roster past now stood stands
+    ∙ told_changes old new rises roster past now matched matches

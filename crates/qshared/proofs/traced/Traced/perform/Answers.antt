@@ -1,6 +1,6 @@
 use Rattle.qshared.proofs.Common.{◌≡◌, length, sym, ◌∙◌, ap, refl, subst, inl, inr, arith, Some, with_event}
 use Rattle.qshared.proofs.Common.{kernel_view, threads_of, seat_kept, Extends, WaitedBefore, calls_of, place}
-use Rattle.qshared.proofs.Common.{AnswersAtTraces, stands_down, stands_made, stands_roster}
+use Rattle.qshared.proofs.Common.{AnswersAtTraces, matches_down, matches_made, matches_roster}
 use Rattle.qshared.proofs.Turns.{still_waited}
 use Rattle.qshared.proofs.Places.{seat_at_place}
 use Rattle.qshared.proofs.Keeps.{is_known, is_shut, is_busy, is_pending, free, same_kernel_view, held_after, apart}
@@ -103,11 +103,11 @@ returns-in-Err-clause-performs g c =
     )
 
 pub make_at-requires-clause-few : goal.make_at-requires-clause-few
-make_at-requires-clause-few g c = let made = stands_made _ _ _ c.self.invariant.2.told.stands in
+make_at-requires-clause-few g c = let made = matches_made _ _ _ c.self.invariant.2.told.matches in
     omega (arith, c.in_default.ensures.few, made)
 
 pub event-requires-clause-roster : goal.event-requires-clause-roster
-event-requires-clause-roster g c = c.make_at.ensures.roster ∙ stands_roster _ _ _ c.self.invariant.2.told.stands
+event-requires-clause-roster g c = c.make_at.ensures.roster ∙ matches_roster _ _ _ c.self.invariant.2.told.matches
     ∙ sym (c.note.ensures.same.1 ∙ c.self.invariant.1)
 
 pub event-requires-clause-seat : goal.event-requires-clause-seat
@@ -140,7 +140,7 @@ event-requires-clause-answers g c =
     let same = c.note.ensures.same in
     rw (c.deref.ensures, same.1 ∙ c.self.invariant.1, same.0, c.in_default.ensures.noted.0)
     (c.make_at.ensures.event g.K.Tie.names.roster (g.L.Log.past c.self.inside.log) c.self.invariant.2.told.lawful
-    c.self.invariant.2.told.stands).0
+    c.self.invariant.2.told.matches).0
 
 pub hand_out-own-requires-clause-apart : goal.hand_out-own-requires-clause-apart
 hand_out-own-requires-clause-apart g c =
@@ -231,15 +231,15 @@ returns-clause-performs g c =
     g.L.Log.admits _ c.in_default.ensures.admitted c.hand_out-own.result c.hand_out-own.ensures.own)
 
 pub note-requires-clause-up : goal.note-requires-clause-up
-note-requires-clause-up g c = sym (stands_down _ _ _ c.self.invariant.2.told.stands) ∙ sym c.is_down.ensures
+note-requires-clause-up g c = sym (matches_down _ _ _ c.self.invariant.2.told.matches) ∙ sym c.is_down.ensures
     ∙ c.if-is_down.false
 
 pub note-requires-clause-made : goal.note-requires-clause-made
-note-requires-clause-made g c = c.made-made.ensures.value ∙ stands_made _ _ _ c.self.invariant.2.told.stands
+note-requires-clause-made g c = c.made-made.ensures.value ∙ matches_made _ _ _ c.self.invariant.2.told.matches
 
 pub event-requires-clause-up : goal.event-requires-clause-up
 event-requires-clause-up g c =
-    rw (c.note.ensures.same.0) (sym (stands_down _ _ _ c.self.invariant.2.told.stands) ∙ sym c.is_down.ensures
+    rw (c.note.ensures.same.0) (sym (matches_down _ _ _ c.self.invariant.2.told.matches) ∙ sym c.is_down.ensures
     ∙ c.if-is_down.false)
 
 pub make_at-requires-clause-seat : goal.make_at-requires-clause-seat

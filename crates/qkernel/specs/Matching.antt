@@ -10,25 +10,25 @@ use Rattle.qrules.specs.Outcome.{Answers}
 use Rattle.qrules.specs.Rule.{buffer_of, own_completion}
 use Rattle.qrules.specs.Rules.Held.{info_of}
 use Rattle.qrules.specs.Trace.{ReceiveId, ThreadNo, Trace}
-use Rattle.qkernel_state.specs.Kept.{members_of}
+use Rattle.qkernel_state.specs.Contents.{members_of}
 use Rattle.qkernel.specs.Kernel.{facts_in, State}
 
 -- the kernel matches this history
-abbrev pub StandsAt : List Member → State → Trace → Type 0
-StandsAt roster s past = facts_in s ≡ facts_of roster past
+abbrev pub MatchesAt : List Member → State → Trace → Type 0
+MatchesAt roster s past = facts_in s ≡ facts_of roster past
 
 -- for every valid history that the kernel matched, these completions follow the rules of the call, and the
 -- kernel now matches the history with the event added
 abbrev pub AnswersAtTraces : State → ThreadNo → Call → List Completion → State → Type 0
 AnswersAtTraces old t c completions new =
-    (roster : List Member) (past : Trace) → IsLawful roster past → StandsAt roster old past
+    (roster : List Member) (past : Trace) → IsLawful roster past → MatchesAt roster old past
     → Answers (facts_of roster past) t c completions
-    × StandsAt roster new (record { thread = t; call = c; completions = completions } ∷ past)
+    × MatchesAt roster new (record { thread = t; call = c; completions = completions } ∷ past)
 
 -- for every history that the kernel matches, this is the result that an Info of message i would have
 abbrev pub InfoAtTraces : State → ReceiveId → Option Info → Type 0
 InfoAtTraces s i info =
-    (roster : List Member) (past : Trace) → StandsAt roster s past
+    (roster : List Member) (past : Trace) → MatchesAt roster s past
     → info ≡ info_of (facts_of roster past) (sender (facts_of roster past) i)
 
 -- a call that fails in its own event, with no other completion, changes only the number of calls made

@@ -15,11 +15,11 @@ pub record KeptPast : Type 0 where
 
 -- the errors with which a call isn't noted: one event of the limit is left, or there was no memory. A
 -- Shutdown is never refused.
-abbrev pub refuses_kept : ℕ → Trace → Call → Errno → Type 0
-refuses_kept limit past c TraceFull = (length past + 1 ≡ limit) × ¬ (c ≡ Shutdown)
-refuses_kept limit past c NoMemory = (length past + 1 < limit) × ¬ (c ≡ Shutdown)
-refuses_kept limit past c e = ⊥
+abbrev pub refuses_recorded : ℕ → Trace → Call → Errno → Type 0
+refuses_recorded limit past c TraceFull = (length past + 1 ≡ limit) × ¬ (c ≡ Shutdown)
+refuses_recorded limit past c NoMemory = (length past + 1 < limit) × ¬ (c ≡ Shutdown)
+refuses_recorded limit past c e = ⊥
 
 -- the condition under which a call is noted: two events of the limit are left, or it is a Shutdown
-abbrev pub admits_kept : ℕ → Trace → Call → Type 0
-admits_kept limit past c = (length past + 1 < limit) ⊎ (c ≡ Shutdown)
+abbrev pub admits_recorded : ℕ → Trace → Call → Type 0
+admits_recorded limit past c = (length past + 1 < limit) ⊎ (c ≡ Shutdown)

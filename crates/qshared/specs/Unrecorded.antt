@@ -15,13 +15,13 @@ use Rattle.qshared.specs.Due.{AreDue}
 
 -- the error with which a call isn't noted: one event of the 2^40 that a kernel makes is left. A Shutdown is
 -- never refused.
-abbrev pub refuses_unkept : Trace → Call → Errno → Type 0
-refuses_unkept past c Exhausted = (length past + 1 ≡ 2 ^ 40) × ¬ (c ≡ Shutdown)
-refuses_unkept past c e = ⊥
+abbrev pub refuses_unrecorded : Trace → Call → Errno → Type 0
+refuses_unrecorded past c Exhausted = (length past + 1 ≡ 2 ^ 40) × ¬ (c ≡ Shutdown)
+refuses_unrecorded past c e = ⊥
 
 -- the condition under which a call is noted: two events are left, or it is a Shutdown
-abbrev pub admits_unkept : Trace → Call → Type 0
-admits_unkept past c = (length past + 1 < 2 ^ 40) ⊎ (c ≡ Shutdown)
+abbrev pub admits_unrecorded : Trace → Call → Type 0
+admits_unrecorded past c = (length past + 1 < 2 ^ 40) ⊎ (c ≡ Shutdown)
 
 -- there is a valid history with the six properties. The sum of these counts is the number of its events. The
 -- calls of each thread in it are exactly the calls of the thread's list, and it extends all prefixes that
