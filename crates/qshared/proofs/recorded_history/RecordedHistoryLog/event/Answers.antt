@@ -2,7 +2,7 @@ use Rattle.qshared.proofs.Common.{◌≡◌, ◌≤◌, length, arith, false, re
 use Rattle.qshared.proofs.Common.{place, IsKept}
 use Rattle.qshared.proofs.Places.{seated}
 use Rattle.qshared.proofs.KeptLog.{finds, all_may_copy, apart, kept_after, next_log, past_is}
-use Rattle.qshared.proofs.recorded_history.KeptLog.event.Goals as goal
+use Rattle.qshared.proofs.recorded_history.RecordedHistoryLog.event.Goals as goal
 
 pub copy_all-requires-clause-apart : goal.copy_all-requires-clause-apart
 copy_all-requires-clause-apart g c =

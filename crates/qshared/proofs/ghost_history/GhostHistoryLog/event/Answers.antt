@@ -2,7 +2,7 @@ use Rattle.qshared.proofs.Common.{◌≡◌, ◌∙◌, ap, sym, subst, true, in
 use Rattle.qshared.proofs.Common.{Answers, effect_of, is_down}
 use Rattle.qrules.specs.Lawful.{facts_of}
 use Rattle.qshared.proofs.KeptLog.{is_shutdown, shutdown_down}
-use Rattle.qshared.proofs.ghost_history.UnkeptLog.event.Goals as goal
+use Rattle.qshared.proofs.ghost_history.GhostHistoryLog.event.Goals as goal
 
 pub invariant_of-self-clause-spare : goal.invariant_of-self-clause-spare
 invariant_of-self-clause-spare g c = λ up.

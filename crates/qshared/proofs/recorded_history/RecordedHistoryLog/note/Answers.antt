@@ -1,6 +1,6 @@
 use Rattle.qshared.proofs.Common.{◌<◌, ◌^◌, length, ap, ◌∙◌, subst, is_down}
 use Rattle.qshared.proofs.KeptLog.{admitted_kept, few_noted, refused_kept}
-use Rattle.qshared.proofs.recorded_history.KeptLog.note.Goals as goal
+use Rattle.qshared.proofs.recorded_history.RecordedHistoryLog.note.Goals as goal
 
 pub returns-in-Err-clause-refused : goal.returns-in-Err-clause-refused
 returns-in-Err-clause-refused g c =
