@@ -116,6 +116,14 @@ def made(found, file, at, lines):
     return item
 
 
+def after_function(text, at):
+    """The line after a function of a trait. A function without a body ends with a semicolon, its contract's
+    too; another ends with the brace of its body."""
+    while not text[at].endswith(";") and text[at] not in ("    {", "    {}"):
+        at += 1
+    return (text.index("    }", at) if text[at] == "    {" else at) + 1
+
+
 def inside(trait, text, start):
     """Moves the functions of a trait out of its declaration."""
     kept, lines, at = [], lines_of(trait.file), 0
@@ -128,9 +136,7 @@ def inside(trait, text, start):
         trait.methods.append(made(found, trait.file, start + at, lines))
         while kept and re.match(r" *(///|$)", kept[-1]):
             kept.pop()
-        last = next(end for end in range(at, len(text)) if re.search(r";$|^    \{$| \{$", text[end]))
-        # (a body of its own ends with its brace)
-        at = (last if text[last].endswith(";") else text.index("    }", last)) + 1
+        at = after_function(text, at)
     trait.signature = "\n".join(kept)
 
 

@@ -1,4 +1,4 @@
-//! HeldMessage messages: received, and without a reply yet.
+//! Held messages: received, and without a reply yet.
 
 ghost use Rattle.std.specs.Prelude.{◌≡◌, None, Some, true, false, option_and_then, option_map, IfOk, IfErr};
 ghost use Rattle.std.specs.Prelude.{OnErr};

@@ -13,7 +13,7 @@ use qscript_names::wording::Context;
 use qscript_text::states::state_name;
 use std::alloc::{AllocError, Global};
 
-/// LabelWords, or an error if there is no memory.
+/// Words, or an error if there is no memory.
 pub type LabelWords = Result<String, AllocError>;
 
 /// Returns the words for a call, as they are drawn beside the caller's lifeline. They have the bytes that the

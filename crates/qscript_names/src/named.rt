@@ -49,7 +49,7 @@ pub const MOST_FAULTS: usize = 20;
 /// The place of the first byte of a text.
 const START: Place = Place { line: 1, column: 1 };
 
-/// NamedFaults with their messages, or an error if there is no memory for them.
+/// Faults with their messages, or an error if there is no memory for them.
 type NamedFaults = Result<Vec<Fault>, AllocError>;
 
 /// Returns a list of one fault.

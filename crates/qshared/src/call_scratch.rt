@@ -24,7 +24,7 @@ pub struct CallScratch {
     pub(crate) pending: bool,
     // The last call, if its bytes were lent to the kernel. It is freed outside the lock.
     pub(crate) lent: Option<Call>,
-    // LoggedCopy of the call that is made next, for the log. They are made before the lock is taken.
+    // Copies of the call that is made next, for the log. They are made before the lock is taken.
     pub(crate) copies: Option<LoggedCopy>,
 }
 

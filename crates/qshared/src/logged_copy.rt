@@ -1,4 +1,4 @@
-//! LoggedCopy of a call, which a port makes before it takes the lock.
+//! Copies of a call, which a port makes before it takes the lock.
 
 ghost use Rattle.std.specs.Prelude.{◌≡◌, ◌≤◌, length, IfSome};
 ghost use Rattle.qmodel.specs.Buffers.{buffer_of};
@@ -28,7 +28,7 @@ impl Model for LoggedCopy {
 }
 
 impl LoggedCopy {
-    /// LoggedCopy a call, or returns `None` if the allocator refuses.
+    /// Copies a call, or returns `None` if the allocator refuses.
     pub fn of(alloc: Global, call: &Call) -> Option<LoggedCopy>
         ensures { IfSome result (λ copies. copies ≡ call.now) }
     {

@@ -69,7 +69,7 @@ fn no_rooms(alloc: Global, many: usize) -> Result<Vec<Preallocated>, AllocError>
     Ok(rooms)
 }
 
-/// LoggedCopy a completion into its thread's room, and adds it to the completions of its event.
+/// Copies a completion into its thread's room, and adds it to the completions of its event.
 fn copy_one(
     alloc: Global,
     kernel: &Kernel,
@@ -99,7 +99,7 @@ fn copy_one(
     });
 }
 
-/// LoggedCopy the completions of an event, each into its thread's room.
+/// Copies the completions of an event, each into its thread's room.
 fn copy_all(
     alloc: Global,
     kernel: &Kernel,

@@ -1,7 +1,7 @@
 //! Compares a run with the expectations of its script, call by call.
 
 use crate::expectation::{CallCheck, Expectation, ExpectedCompletion, Follower, StateCheck};
-use crate::expecting::completion::ShownEnd;
+use crate::expecting::completion_parts::ShownEnd;
 use crate::line::Operand;
 use crate::scope::Scope;
 use crate::wording::Context;
