@@ -1,5 +1,5 @@
-"""The definitions of the `specs` folders that a definition cites, and the definitions that these cite: a reader of
-the definition must believe them."""
+"""The definitions of the `specs` folders that a definition or a contract cites, and the definitions that these cite: a
+reader of it must believe them."""
 
 import re
 from pathlib import Path
@@ -11,13 +11,32 @@ BEGINS = re.compile(r"^( *)(?:abbrev |unfoldable )?pub (?:(?:record|data) )?([^\
 NAMES = re.compile(r"(?<![\w.'◌])([A-Za-z_][\w']*)((?:\.[A-Za-z_][\w']*)*)")
 
 
-class File:
-    """One file of definitions: the text of each, the names that it brings in, and its short names for modules."""
+class Scope:
+    """The names that a file imports, and its short names for modules. `texts` has the definitions of its own."""
+
+    def __init__(self):
+        self.texts, self.names, self.modules = {}, {}, {}
+
+    def bring(self, use, beneath=""):
+        """Adds the names of an import. A relative path begins at the module `beneath`."""
+        path = use[2] if use[2].startswith("Rattle.") else f"{beneath}.{use[2]}"
+        if use[3] is None:
+            self.modules[use[4] or path.split(".")[-1]] = path
+            return
+        for part in use[3].split(","):
+            name, _, here = part.strip().partition(" as ")
+            if re.match(r"\w", name):
+                self.names[here or name] = (path, name)
+
+
+class File(Scope):
+    """One file of definitions, with the text of each."""
 
     def __init__(self, crate, path, specs):
+        super().__init__()
         self.crate, self.path = crate, path
         self.module = ".".join(path.relative_to(specs).with_suffix("").parts)
-        self.texts, self.sections, self.names, self.modules = {}, {}, {}, {}
+        self.sections = {}
         text = path.read_text()
         self.length = len(text.splitlines())
         last, section = None, ""
@@ -25,7 +44,7 @@ class File:
             code = re.sub(r"(^|\s+)--( .*)?$", "", line)
             use, begun = USE.match(line), BEGINS.match(line)
             if use:
-                self.bring(use)
+                self.bring(use, f"Rattle.{crate}.specs.{self.module}")
             elif line.startswith("module _"):
                 section, last = code, None
             elif begun and begun[2] not in ("mod", "use") and not (begun[1] and self.is_field(last, begun)):
@@ -41,16 +60,6 @@ class File:
             return False
         head = self.texts[last][0]
         return "record " in head.split(":")[0] and len(begun[1]) > len(head) - len(head.lstrip())
-
-    def bring(self, use):
-        path = use[2] if use[2].startswith("Rattle.") else f"Rattle.{self.crate}.specs.{self.module}.{use[2]}"
-        if use[3] is None:
-            self.modules[use[4] or path.split(".")[-1]] = path
-            return
-        for part in use[3].split(","):
-            name, _, here = part.strip().partition(" as ")
-            if re.match(r"\w", name):
-                self.names[here or name] = (path, name)
 
 
 class Library:
@@ -81,34 +90,44 @@ class Library:
             return self.found(file.modules[name], name)
         return None
 
-    def named(self, file, head, rest):
-        """The meaning of a word in the file's text."""
-        if head in file.texts:
-            return file, head
-        if head in file.names:
-            path, name = file.names[head]
+    def named(self, scope, head, rest):
+        """The meaning of a word in the text of a file."""
+        if head in scope.texts:
+            return scope, head
+        if head in scope.names:
+            path, name = scope.names[head]
             inner = self.files.get(path)
             if inner and name in inner.modules and rest:
                 return self.found(inner.modules[name], rest[0])
             return self.found(path, name)
-        if head in file.modules and rest:
-            return self.found(file.modules[head], rest[0])
+        if head in scope.modules and rest:
+            return self.found(scope.modules[head], rest[0])
         return None
 
-    def cited_by(self, file, name):
-        """The definitions that the definition cites. A name that it binds counts as the definition of that name,
+    def cited_in(self, scope, text):
+        """The definitions that a text in a file cites. A name that it binds counts as the definition of that name,
         if there is one."""
-        for head, tail in NAMES.findall("\n".join([file.sections[name], *file.texts[name]])):
-            what = self.named(file, head, tail.split(".")[1:])
-            if what and what != (file, name):
+        for head, tail in NAMES.findall(text):
+            what = self.named(scope, head, tail.split(".")[1:])
+            if what:
                 yield what
 
-    def below(self, module, name):
-        """All definitions that it rests on, itself too, and the types of the code among them."""
-        start = self.found(module, name)
-        if start is None:
-            raise KeyError(f"{module} has no {name}")
-        seen, types, left = set(), set(), [start]
+    def cited_by(self, file, name):
+        """The definitions that a definition cites, without itself."""
+        text = "\n".join([file.sections[name], *file.texts[name]])
+        return [what for what in self.cited_in(file, text) if what != (file, name)]
+
+    def definition(self, path):
+        """The definition with this path."""
+        module, _, name = path.rpartition(".")
+        found = self.found(module, name)
+        if found is None:
+            raise KeyError(f"there is no definition {path}")
+        return found
+
+    def below(self, starts):
+        """All definitions that these rest on, with these, and the types of the code among them."""
+        seen, types, left = set(), set(), list(starts)
         while left:
             what = left.pop()
             if what[1] is None:

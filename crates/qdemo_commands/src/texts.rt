@@ -384,7 +384,7 @@ fewer of them. A violation is reported with the fewest calls that lead to it:
   can't end any more             the threads continue, but reach no rest state
   a call fails                   and no expect or if below it names fail
   an expectation doesn't hold    with the completion
-  a name matches for nothing      a call uses an unbound name
+  a name stands for nothing      a call uses an unbound name
   priorities are inverted        a client waits for a server that works below
                                  another thread, which is ready
   too many are inside            a lock, with its threads
