@@ -9,8 +9,8 @@ use Rattle.qshared.proofs.PrefixCommon.{Meets, triple_of, entered, Stays, walk_o
 use contract.Running.{tables, tables_of}
 use Rattle.qshared.proofs.Walks.{none, none_made}
 use Rattle.qshared.proofs.PrefixFacts.{tells_all}
-use Rattle.qshared.specs.contracts.asking.PortCalls as Asked
-use Rattle.qshared.specs.contracts.asking.KernelCalls as Heard
+use Rattle.qshared.specs.contracts.asking.PortCalls as PortCalls
+use Rattle.qshared.specs.contracts.asking.KernelCalls as KernelCalls
 use Rattle.qshared.specs.contracts.asking.halves as F
 use Rattle.qshared.specs.contracts.asking.halves.Key.{name as #self}
 use Rattle.qshared.proofs.asking.halves.Statement as stated

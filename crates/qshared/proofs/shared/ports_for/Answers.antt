@@ -2,7 +2,7 @@ use Rattle.qshared.proofs.Common.{◌≡◌, refl, false, ◌+◌, ◌++◌, ◌
 use Rattle.qshared.proofs.Common.{length, length-append, append_assoc, get_or, ◌<◌, common_steps, YieldsList-from_vec}
 use Rattle.qshared.proofs.Common.{length-map, get_elem?, Some, same_Some, none-some, rises, at_index, taken, thread_of}
 use Rattle.qshared.proofs.Common.{took, asked_in, collected, place}
-use Rattle.std.proofs.lemmas.Iterator.Consumers.{YieldsList-scratch, YieldsList-end}
+use Rattle.std.proofs.lemmas.Iterator.Consumers.{YieldsList-turn, YieldsList-end}
 use lib.Seq.{get_or-append_seam}
 use Rattle.qrules.proofs.Words.Facts.{threads_of}
 use Rattle.qkernel.proofs.Running.{popped}
@@ -13,7 +13,7 @@ use Rattle.qshared.proofs.shared.ports_for.Goals as goal
 pub bounds-threads-thread : goal.bounds-threads-thread
 bounds-threads-thread g c =
     let t =
-    YieldsList-scratch
+    YieldsList-turn
     (YieldsList-from_vec {s = c.into_iter-seat-iterator.result} c.args.seats.items
     c.into_iter-seat-iterator.ensures.into_iter_gives.0
     (c.into_iter-seat-iterator.ensures.into_iter_gives.1 ∙ c.args.seats.ok.0)) c.loop-seat.yielded
@@ -27,7 +27,7 @@ bounds-threads-thread g c =
 pub new-port-requires-clause-seat : goal.new-port-requires-clause-seat
 new-port-requires-clause-seat g c =
     let t =
-    YieldsList-scratch
+    YieldsList-turn
     (YieldsList-from_vec {s = c.into_iter-seat-iterator.result} c.args.seats.items
     c.into_iter-seat-iterator.ensures.into_iter_gives.0
     (c.into_iter-seat-iterator.ensures.into_iter_gives.1 ∙ c.args.seats.ok.0)) c.loop-seat.yielded
@@ -50,7 +50,7 @@ new-port-requires-clause-seat g c =
 pub new-port-requires-clause-scratch : goal.new-port-requires-clause-scratch
 new-port-requires-clause-scratch g c =
     let t =
-    YieldsList-scratch
+    YieldsList-turn
     (YieldsList-from_vec {s = c.into_iter-seat-iterator.result} c.args.seats.items
     c.into_iter-seat-iterator.ensures.into_iter_gives.0
     (c.into_iter-seat-iterator.ensures.into_iter_gives.1 ∙ c.args.seats.ok.0)) c.loop-seat.yielded
@@ -77,7 +77,7 @@ new-port-requires-clause-scratch g c =
 pub unreachable-requires-in_default-seat : goal.unreachable-requires-in_default-seat
 unreachable-requires-in_default-seat g c =
     let t =
-    YieldsList-scratch
+    YieldsList-turn
     (YieldsList-from_vec {s = c.into_iter-seat-iterator.result} c.args.seats.items
     c.into_iter-seat-iterator.ensures.into_iter_gives.0
     (c.into_iter-seat-iterator.ensures.into_iter_gives.1 ∙ c.args.seats.ok.0)) c.loop-seat.yielded
@@ -99,7 +99,7 @@ unreachable-requires-in_default-seat g c =
 pub new-port-requires-clause-asked : goal.new-port-requires-clause-asked
 new-port-requires-clause-asked g c =
     let t =
-    YieldsList-scratch
+    YieldsList-turn
     (YieldsList-from_vec {s = c.into_iter-seat-iterator.result} c.args.seats.items
     c.into_iter-seat-iterator.ensures.into_iter_gives.0
     (c.into_iter-seat-iterator.ensures.into_iter_gives.1 ∙ c.args.seats.ok.0)) c.loop-seat.yielded
@@ -190,7 +190,7 @@ returns-clause-new g c =
 pub new-port-requires-clause-taken : goal.new-port-requires-clause-taken
 new-port-requires-clause-taken g c =
     let t =
-    YieldsList-scratch
+    YieldsList-turn
     (YieldsList-from_vec {s = c.into_iter-seat-iterator.result} c.args.seats.items
     c.into_iter-seat-iterator.ensures.into_iter_gives.0
     (c.into_iter-seat-iterator.ensures.into_iter_gives.1 ∙ c.args.seats.ok.0)) c.loop-seat.yielded

@@ -11,8 +11,8 @@ use Rattle.qshared.proofs.PrefixCommon.{heard_owns}
 use contract.Running.{Running, MachineTables, tables, tables_of}
 use contract.CodeStep
 use Rattle.qshared.proofs.PrefixFacts.{hears_last, tells_all}
-use Rattle.qshared.specs.contracts.asking.PortCalls as Asked
-use Rattle.qshared.specs.contracts.asking.KernelCalls as Heard
+use Rattle.qshared.specs.contracts.asking.PortCalls as PortCalls
+use Rattle.qshared.specs.contracts.asking.KernelCalls as KernelCalls
 use Rattle.qshared.specs.contracts.asking.PortCalls.agree as F
 use Rattle.qshared.specs.contracts.asking.PortCalls.agree.Key.{name as #self}
 use Rattle.qshared.proofs.asking.PortCalls.agree.Statement as stated

@@ -14,8 +14,8 @@ use Rattle.qshared.proofs.PrefixFacts.{hears_last, tells_all}
 use Rattle.std.specs.contracts.snapshot.Snapshot as Snapshot
 use Rattle.qmodel.specs.declared.call.Call.{Call as Asking}
 use Rattle.qmodel.specs.contracts.call.Call as Call
-use Rattle.qshared.specs.contracts.asking.PortCalls as Asked
-use Rattle.qshared.specs.contracts.asking.KernelCalls as Heard
+use Rattle.qshared.specs.contracts.asking.PortCalls as PortCalls
+use Rattle.qshared.specs.contracts.asking.KernelCalls as KernelCalls
 use Rattle.qshared.specs.contracts.asking.PortCalls.ask as F
 use Rattle.qshared.specs.contracts.asking.PortCalls.ask.Key.{name as #self}
 use Rattle.qshared.proofs.asking.PortCalls.ask.Statement as stated

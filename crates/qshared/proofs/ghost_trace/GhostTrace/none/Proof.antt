@@ -6,7 +6,7 @@ use Rattle.qshared.proofs.PrefixCommon.{free_all, look_at, sets, owns, types_at,
 use Rattle.qshared.proofs.PrefixCommon.{alive, Meets, triple_of, entered, says, Stays, walk_of, ends_at, walk_Meets}
 use contract.Running.{tables, tables_of}
 use Rattle.qshared.proofs.Walks.{none, none_made}
-use Rattle.qshared.specs.contracts.ghost_trace.GhostTrace as Past
+use Rattle.qshared.specs.contracts.ghost_trace.GhostTrace as GhostTrace
 use Rattle.qshared.specs.contracts.ghost_trace.GhostTrace.none as F
 use Rattle.qshared.specs.contracts.ghost_trace.GhostTrace.none.Key.{name as #self}
 use Rattle.qshared.proofs.ghost_trace.GhostTrace.none.Statement as stated

@@ -8,7 +8,7 @@ use Rattle.qshared.proofs.PrefixCommon.{triple_of, entered, says, Stays, stay_dr
 use Rattle.qshared.proofs.PrefixCommon.{Goes-dropped, number}
 use contract.Running.{tables, tables_of}
 use Rattle.qshared.proofs.Walks.{none, none_made}
-use Rattle.qshared.specs.contracts.ghost_trace.GhostTrace as Past
+use Rattle.qshared.specs.contracts.ghost_trace.GhostTrace as GhostTrace
 use Rattle.std.specs.contracts.snapshot.Snapshot as Snapshot
 use Rattle.qbase.specs.contracts.ids.ThreadNo as ThreadNo
 use Rattle.qmodel.specs.contracts.call.Call as Call

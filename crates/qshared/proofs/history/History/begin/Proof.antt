@@ -12,7 +12,7 @@ use Rattle.qshared.proofs.Walks.{none, none_made}
 use Rattle.qshared.proofs.PrefixFacts.{tells_all}
 use Rattle.qshared.proofs.Pasts.{begins, shows}
 use Rattle.qshared.specs.contracts.history.History as History
-use Rattle.qshared.specs.contracts.history.Prefix as Seen
+use Rattle.qshared.specs.contracts.history.Prefix as Prefix
 use Rattle.qshared.specs.contracts.history.History.begin as F
 use Rattle.qshared.specs.contracts.history.History.begin.Key.{name as #self}
 use Rattle.qshared.proofs.history.History.begin.Statement as stated

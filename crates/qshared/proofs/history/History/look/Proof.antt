@@ -13,7 +13,7 @@ use contract.CodeStep
 use Rattle.qshared.proofs.PrefixFacts.{hears_last, tells_all}
 use Rattle.qshared.proofs.Pasts.{looks}
 use Rattle.qshared.specs.contracts.history.History as History
-use Rattle.qshared.specs.contracts.history.Prefix as Seen
+use Rattle.qshared.specs.contracts.history.Prefix as Prefix
 use Rattle.qshared.specs.contracts.history.History.look as F
 use Rattle.qshared.specs.contracts.history.History.look.Key.{name as #self}
 use Rattle.qshared.proofs.history.History.look.Statement as stated

@@ -5,7 +5,7 @@ use Rattle.qshared.proofs.PrefixCommon.{no_more, returns, enter, alloc_all, pass
 use Rattle.qshared.proofs.PrefixCommon.{yes, unhide, owns, shr_vals, shr_Tells, types_at, plain, nothing, alive, Stays}
 use Rattle.qshared.proofs.PrefixCommon.{stay_dropped, walk_of, Goes-dropped}
 use Rattle.qshared.proofs.Walks.{none, none_made}
-use Rattle.qshared.specs.contracts.history.Prefix as Seen
+use Rattle.qshared.specs.contracts.history.Prefix as Prefix
 use Rattle.qshared.specs.contracts.history.Prefix.again.{ended, clauses}
 use Rattle.qshared.specs.contracts.history.Prefix.again.Key.{name as #self}
 use Rattle.qshared.proofs.history.Prefix.again.Statement.{statement}

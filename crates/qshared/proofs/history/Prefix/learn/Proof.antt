@@ -8,7 +8,7 @@ use Rattle.qshared.proofs.PrefixCommon.{types_at, plain, nothing, opens, closes,
 use Rattle.qshared.proofs.PrefixCommon.{Goes-dropped, Goes-ref, Extends, longer, seen_owns}
 use Rattle.qshared.proofs.PrefixFacts.{facts, hears_last, tells_all}
 use Rattle.qshared.proofs.Pasts.{Learned, learns}
-use Rattle.qshared.specs.contracts.history.Prefix as Seen
+use Rattle.qshared.specs.contracts.history.Prefix as Prefix
 use Rattle.qshared.specs.contracts.history.Prefix.learn.{ended, clauses}
 use Rattle.qshared.specs.contracts.history.Prefix.learn.Key.{name as #self}
 use Rattle.qshared.proofs.history.Prefix.learn.Statement.{statement}
