@@ -141,7 +141,7 @@ impl<'a, K: Tie, L: Log> KernelPort<'a, K, L> {
         ensures others { Extends self.new.port.seen.trace other.entry.now }
         ensures same { (self.new.port.thread ≡ self.old.port.thread)
             × (self.new.port.asked ≡ self.old.port.asked) × (self.new.port.seat ≡ self.old.port.seat)
-            × (self.new.port.turn.pending ≡ self.old.port.turn.pending)
+            × (self.new.port.scratch.pending ≡ self.old.port.scratch.pending)
             × (self.new.port.last ≡ self.old.port.last) × (self.new.told ≡ self.old.told) }
     {
         self.port.learn(other);
@@ -174,7 +174,7 @@ impl<'a, K: Tie, L: Log> Endpoint for KernelPort<'a, K, L> {
     ghost history = { λ p. record {
       asked = p.port.asked.calls;
       taken = collected p.port.last.trace p.port.thread (taken p.port.seat);
-      pending = p.port.turn.pending;
+      pending = p.port.scratch.pending;
       told = p.told;
     } };
 
