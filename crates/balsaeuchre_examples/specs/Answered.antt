@@ -1,6 +1,6 @@
 -- A client's report to another client: its message got a reply.
 use Rattle.std.specs.Prelude.{◌≡◌, ◌∷◌, [], Bool, false, is_some, length, slice_get}
-use Rattle.balsaeuchre.specs.Laws.{event_at}
+use Rattle.balsaeuchre.specs.HistoryLaws.{event_at}
 use Rattle.balsaeuchre.specs.Rules.{effect_of}
 use Rattle.balsaeuchre.specs.Trace.{Trace}
 
