@@ -5,7 +5,7 @@ use Rattle.std.proofs.lemmas.Bool.{true≢false}
 use Rattle.std.proofs.lemmas.List.{append_assoc}
 use Rattle.qmodel.specs.declared.call.Call.{Call}
 use Rattle.balsaeuchre.specs.Answered.{AtPast}
-use Rattle.balsaeuchre.specs.Laws.{InRealTime}
+use Rattle.balsaeuchre.specs.HistoryLaws.{InRealTime}
 use Rattle.balsaeuchre.specs.SeenPast.{Extends}
 use Rattle.balsaeuchre_examples.specs.Answered.{is_sent, ToldAfterAnswer}
 
