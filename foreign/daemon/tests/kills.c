@@ -71,6 +71,7 @@ static void serve(void *at) {
 /* Sends a message, and checks the reply. Returns whether the connection still works. */
 static bool ask(int coid, char *sent, char *back) {
     uint32_t length = 4 + (uint32_t)rand() % (rand() % 16 ? 100 : LONG - 4);
+    if ((uint16_t)length == _IO_CONNECT) length--; /* the server would take the message for a name_open */
     memcpy(sent, &length, sizeof length);
     for (uint32_t at = 4; at < length; at++) sent[at] = (char)rest_of(length, at);
     memset(back, 0x55, length);
