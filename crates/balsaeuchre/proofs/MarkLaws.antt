@@ -15,26 +15,19 @@ use Rattle.qqueue.specs.declared.item.Item.{Item}
 use Rattle.qqueue.specs.declared.item.Kind.{Kind}
 use Rattle.qqueue.specs.declared.item.Kind.TheVariants.{Any, PulseOnly}
 use Rattle.qqueue.proofs.OrderLaws.{best-may}
-use Rattle.qrules.specs.Outcome.{completion_to}
-use Rattle.qrules.proofs.Words.Items.{refusal_completion}
-use Rattle.qrules.specs.Rules.{row_of}
+use Rattle.qrules.proofs.Words.Outcome.{completion_to, row_of}
+use Rattle.qrules.proofs.Words.Items.{refusal_completion, info_completion, message_item, Finish}
 use Rattle.qrules.specs.Rules.Connections as connect_detach
-use Rattle.qrules.proofs.Traces.Parts.{error_finish}
-use Rattle.qrules.specs.Records.{error_mark}
+use Rattle.qrules.proofs.Traces.Parts.{error_finish, reply_finish}
+use Rattle.qrules.specs.Records.{error_mark, with_buffer}
 use Rattle.qrules.specs.Rules.Held.{info_of}
-use Rattle.qrules.proofs.Words.Items.{info_completion}
-use Rattle.qrules.specs.Rules.Pulse as pulse
-use Rattle.qrules.proofs.Traces.Parts.{reply_finish}
-use Rattle.qrules.proofs.Words.Items.{message_item}
+use Rattle.qrules.proofs.Words.Made.{pulse_over}
 use Rattle.qrules.specs.Rules.Unblock as unblock
-use Rattle.qrules.specs.Delivery.{is_on}
+use Rattle.qrules.specs.Delivery.{is_on, delivery_of}
 use Rattle.qrules.proofs.Words.Effects.{asks}
 use Rattle.qrules.proofs.Words.Facts.{number_of, Facts, message, route, sender, threads_of}
-use Rattle.qrules.specs.Records.{with_buffer}
-use Rattle.qrules.proofs.Words.Items.{Finish}
 use Rattle.qrules.proofs.Words.Lawful.{facts_of}
 use Rattle.qrules.proofs.Words.Past.{filled, with_receipt}
-use Rattle.qrules.specs.Delivery.{delivery_of}
 use Rattle.qmodel.specs.Trace.{Trace}
 use Rattle.qmodel.specs.declared.call.Call.{Call}
 use Rattle.qmodel.specs.declared.call.Call.TheVariants.{Send, Receive, Reply, Error, Info, ReceivePulse, Pulse}
@@ -145,8 +138,8 @@ ends_fits f t (Error rcvid code) u y p e =
     ∙ e))
 ends_fits f t (Pulse coid priority code value) u y p e =
     let k =
-    told_meets f (pulse.pulse_over f coid priority code value) u y
-    (sym (pulse_same f (pulse.pulse_over f coid priority code value) u) ∙ e) in
+    told_meets f (pulse_over f coid priority code value) u y
+    (sym (pulse_same f (pulse_over f coid priority code value) u) ∙ e) in
     met_fits f (Some k.made.channel) k.made.item [] u y k.delivers
 ends_fits f t (ChannelDestroy chid) u y p e =
     λ w is. failed_fits w y.mark _ (ap (λ x. x.mark) (cancel_parts (is_on chid) Srch u (f.open_call u) y e).completion)
@@ -195,7 +188,7 @@ completions_fit roster past e r l =
     let f = facts_of roster past in
     let P = λ (x : Completion). option_map (λ c. fits c x.mark) (call_at (e ∷ past) x.call) ≡ Some true in
     elim (l.1.1) [
-      | inl a ↦ subst (AllByRecursion P) (sym a.1)
+      | inl a ↦ subst (AllByRecursion P) (sym a.by_row)
           (all_filter_map P (completion_to f e.thread e.call) (threads_of roster) (λ v y is.
           elim (completion_names f e.thread e.call v y (laws_of f e.thread e.call e.completions a) is) [
             | inl own ↦ of_call (e ∷ past) y (length past + 1) e.call own.names.call (call_newest e past)
@@ -211,8 +204,8 @@ completions_fit roster past e r l =
                 ∙ ends_fits f e.thread e.call v y
                 (passes_of f e.thread e.call e.completions a) other.is other.names.waiting other.names.is)
           ]))
-      | inr a ↦ subst (AllByRecursion P) (sym a.2) (
-        of_call (e ∷ past) (refusal_completion f e.thread e.call a.0) (length past + 1) e.call refl
+      | inr a ↦ subst (AllByRecursion P) (sym a.only) (
+        of_call (e ∷ past) (refusal_completion f e.thread e.call a.error) (length past + 1) e.call refl
             (call_newest e past) refl,
         tt,
       )

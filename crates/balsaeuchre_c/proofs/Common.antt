@@ -15,7 +15,7 @@ pub use Rattle.qkernel.proofs.Common.{none-some, number_of, open_call, option_an
 pub use Rattle.qkernel.proofs.Common.{refl, row_of, same_Some, sender, sent_same, sent_way, subst, sym, take}
 pub use Rattle.qkernel.proofs.Common.{threads_of, true, unblocked_same, ℕ, ◌++◌, ◌+◌, ◌-◌, ◌<◌, ◌∙◌, ◌∷◌, ◌≡◌}
 pub use Rattle.qrules.proofs.Basics.{Delivers, call_laws, copied_count_of, delivery_meets, detach_ends, ended_below}
-pub use Rattle.qrules.proofs.Basics.{ends_other, ends_own, filled, has_completion_of, is_ended, is_for_answer}
+pub use Rattle.qrules.proofs.Basics.{ends_other, ends_own, filled, completes, is_ended, is_for_answer}
 pub use Rattle.qrules.proofs.Basics.{is_unblocked, kept, kept_number, open_from, open_known, open_parts, passes_of}
 pub use Rattle.qrules.proofs.Basics.{priority_of_item, receipt_for_answer, receive_takes, sender_sends, with_event}
 pub use Rattle.qrules.proofs.Basics.{with_receipt}

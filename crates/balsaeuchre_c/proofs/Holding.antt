@@ -4,7 +4,7 @@ use Rattle.balsaeuchre_c.proofs.Common.{IsLawful, IsRoster, Item, Kind, List, Me
 use Rattle.balsaeuchre_c.proofs.Common.{Pulse, Send, SentItem, Some, Trace, Unblock, all_filter_map, ap, arith, best_of}
 use Rattle.balsaeuchre_c.proofs.Common.{call_laws, completion_to, copied_count_of, delivery_meets, detach_ends}
 use Rattle.balsaeuchre_c.proofs.Common.{ended_below, ends_other, ends_own, eq-eqb, eqb, facts_of, false, filled}
-use Rattle.balsaeuchre_c.proofs.Common.{has_completion_of, info_of, info_of_open, inl, inr, is_ended, is_for_answer}
+use Rattle.balsaeuchre_c.proofs.Common.{completes, info_of, info_of_open, inl, inr, is_ended, is_for_answer}
 use Rattle.balsaeuchre_c.proofs.Common.{is_pulse, is_some, is_unblocked, item_in, kept, kept_number, laws_of, length}
 use Rattle.balsaeuchre_c.proofs.Common.{makes, member_at, ne_eqb, none-some, number_of, open_call, open_from}
 use Rattle.balsaeuchre_c.proofs.Common.{open_known, open_parts, passes_of, priority_of_item, pulse_same}
@@ -18,7 +18,7 @@ use Rattle.qrules.proofs.Traces.Properties.Receipts.{completion_of}
 use Rattle.qrules.proofs.Traces.Properties.Rows.Telling.{Tells, told_meets, unblock_ends}
 use Rattle.qrules.proofs.Traces.TraceLaws.Held.{held_sender}
 use Rattle.std.specs.Option.{option_and_then}
-use Rattle.qrules.specs.Rules.Pulse as pulse
+use Rattle.qrules.proofs.Words.Made.{pulse_over}
 use Rattle.qrules.specs.Rules.Unblock as unblock
 use Rattle.qmodel.specs.declared.call.Mark.TheVariants as mark
 
@@ -79,9 +79,9 @@ ends_message f t (Send coid sent reply_buffer) u y i copied r e m =
       sent_way,
     )
 ends_message f t (Pulse coid level code value) u y i copied r e m =
-    told_message f t (Pulse coid level code value) (pulse.pulse_over f coid level code value) u y i copied refl
-    (told_meets f (pulse.pulse_over f coid level code value) u y
-    (sym (pulse_same f (pulse.pulse_over f coid level code value) u) ∙ e)) m
+    told_message f t (Pulse coid level code value) (pulse_over f coid level code value) u y i copied refl
+    (told_meets f (pulse_over f coid level code value) u y
+    (sym (pulse_same f (pulse_over f coid level code value) u) ∙ e)) m
 ends_message f t c u y i copied r e m = grind arith
 
 -- ---- the data that `Info` returns for it
@@ -145,14 +145,14 @@ module _ (roster : List Member) (past : Trace) (t : ℕ) (c : Call) (X : List Co
       let other : eqb w.thread t ≡ false =
       ne_eqb w.thread t
       (λ same. none-some _ (sym (passes_of f t c X a).idle ∙ ap (open_call roster past) (sym same) ∙ is_open)) in
-      let kept : has_completion_of X (number_of w.block) ≡ false =
-      ap (has_completion_of X) (sym (kept_number roster past w.block))
+      let kept : completes X (number_of w.block) ≡ false =
+      ap (completes X) (sym (kept_number roster past w.block))
       ∙ ends_other roster past t c X w.thread _ l a other is_open ∙ ap is_some (k.alone w.thread) in
       subst (λ j. is_ended (with_event t c X past) j ≡ false) (w.number ∙ k.takes.1) (rw (kept, unended) refl)
 
   made_going : (i : ℕ) → TakesMade f t c i → is_ended (with_event t c X past) i ≡ false
   made_going i k =
-      let none : has_completion_of X (length past + 1) ≡ false = ends_own roster past t c X member a
+      let none : completes X (length past + 1) ≡ false = ends_own roster past t c X member a
       ∙ ap is_some ((laws_of f t c X a).sends k.made k.is_made k.takes.0) in
       subst (λ j. is_ended (with_event t c X past) j ≡ false)
       (sym ((call_laws c).makes_one f t k.made k.is_made).number ∙ k.takes.1)
@@ -177,10 +177,10 @@ pub received_told : (roster : List Member) (past : Trace) (t : ℕ) (c : Call) (
     → IsLawful roster past → is_some (member_at roster t) ≡ true
     → Answers (facts_of roster past) t c X → AllByRecursion (IsHeldAfter roster (with_event t c X past)) X
 received_told roster past t c X rises l member answers = elim answers [
-  | inl a ↦ subst (AllByRecursion (IsHeldAfter roster (with_event t c X past))) (sym a.1)
+  | inl a ↦ subst (AllByRecursion (IsHeldAfter roster (with_event t c X past))) (sym a.by_row)
       (all_filter_map (IsHeldAfter roster (with_event t c X past)) (completion_to (facts_of roster past) t c)
       (threads_of roster) (told_after roster past t c X rises l member a))
-  | inr a ↦ subst (AllByRecursion (IsHeldAfter roster (with_event t c X past))) (sym a.2) (
+  | inr a ↦ subst (AllByRecursion (IsHeldAfter roster (with_event t c X past))) (sym a.only) (
     (λ i copied m. absurd (none-some _ (ap item_in m))),
     tt,
   )

@@ -54,9 +54,9 @@ ended_alone : (f : Facts) (t : ℕ) (c : Call) (X : List Completion) (own : Comp
     → ((u : ℕ) → (row_of f t c).others u ≡ None) → own.call ≡ f.number → Answers f t c X
     → AllByRecursion (λ y. y.call ≡ f.number) X
 ended_alone f t c X own is alone same answers = elim answers [
-  | inl a ↦ subst (AllByRecursion (λ y. y.call ≡ f.number)) (sym a.1)
+  | inl a ↦ subst (AllByRecursion (λ y. y.call ≡ f.number)) (sym a.by_row)
       (all_filter_map _ (completion_to f t c) (threads_of f.roster) (λ u y e. grind (arith, alone u)))
-  | inr a ↦ subst (AllByRecursion (λ y. y.call ≡ f.number)) (sym a.2) (refl, tt)
+  | inr a ↦ subst (AllByRecursion (λ y. y.call ≡ f.number)) (sym a.only) (refl, tt)
 ]
 
 -- ---- each completion

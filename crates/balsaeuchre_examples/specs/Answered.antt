@@ -1,8 +1,7 @@
 -- A client's report to another client: its message got a reply.
 use Rattle.std.specs.Prelude.{◌≡◌, ◌∷◌, [], Bool, false, is_some, length, slice_get}
-use Rattle.balsaeuchre.specs.HistoryLaws.{event_at}
 use Rattle.balsaeuchre.specs.Rules.{effect_of}
-use Rattle.balsaeuchre.specs.Trace.{Trace}
+use Rattle.balsaeuchre.specs.Trace.{event_at, Trace}
 
 -- the newest event of the prefix sends a message
 abbrev pub is_sent : Trace → Bool

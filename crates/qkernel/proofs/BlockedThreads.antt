@@ -1,13 +1,11 @@
 -- The blocked threads, by their records.
 use Rattle.qkernel.proofs.Common.{◌≡◌, ℕ, ◌+◌, ◌<◌, List, [], ◌∷◌, ◌++◌, length, take, get_or, refl, ap, ◌∙◌}
-use Rattle.qkernel.proofs.Common.{filter_map, cons_option, AllByRecursion, option_map, option_to_list, option_map_or}
-use Rattle.qkernel.proofs.Common.{take_at_read, filter_map-append, blocked_thread, state_in, facts_of, Trace, own_open}
-use Rattle.qkernel.proofs.Common.{Ready, number_of, Option, None, Some, IsRoster, Member, threads_of, Facts}
-use Rattle.qkernel.proofs.Common.{filter_map_same, MatchesAt, State, facts_in, open_in, members_of, OpenCall, Thread}
-use Rattle.qrules.proofs.Words.Blocked.{blocked_threads_in}
+use Rattle.qkernel.proofs.Common.{filter_map, cons_option, AllByRecursion, option_to_list}
+use Rattle.qkernel.proofs.Common.{take_at_read, filter_map-append, blocked_thread, facts_of, Trace, own_open}
+use Rattle.qkernel.proofs.Common.{Option, None, Some, IsRoster, Member, threads_of}
+use Rattle.qkernel.proofs.Common.{MatchesAt, State, open_in, members_of, OpenCall, Thread}
 use Rattle.qkernel.specs.Blocked.{blocked_threads}
 use Rattle.qmodel.specs.declared.open_call.Blocked.{Blocked}
-use Rattle.qkernel.specs.Blocked as told
 
 -- the list entry of each blocked thread, made from its record
 abbrev pub blocked_by : List Thread → List Blocked
@@ -34,21 +32,8 @@ same_told : (open_call : ℕ → Option OpenCall) (threads : List Thread)
 same_told open_call [] h = refl
 same_told open_call (t ∷ threads) h = rw (h.0, same_told open_call threads h.1) refl
 
--- ---- the list entries that the rules give
-
-module _ (f : Facts) where
-  told_same : (u : ℕ) → blocked_thread u (f.open_call u) ≡ told.blocked_thread f u
-  told_same u =
-      elim (f.open_call u)
-      as (λ o. blocked_thread u o ≡ option_map
-      (λ n. record { number = n; thread = u; state = option_map_or state_in o Ready })
-      (option_map number_of o)) [ None ↦ refl | Some o ↦ refl ]
-
-  all_told : blocked_threads_in f ≡ blocked_threads f
-  all_told = filter_map_same _ _ (threads_of f.roster) told_same
-
 pub blocked_now : (roster : List Member) (s : State) (past : Trace) → IsRoster (members_of s.threads)
     → MatchesAt roster s past
     → blocked_by s.threads ≡ blocked_threads (facts_of roster past)
 blocked_now roster s past rises matches = same_told (open_in s.threads) s.threads (own_open s.threads rises)
-    ∙ all_told (facts_in s) ∙ ap blocked_threads matches
+    ∙ ap blocked_threads matches

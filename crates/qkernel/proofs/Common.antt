@@ -35,20 +35,20 @@ pub use Rattle.qrules.proofs.Words.Facts.{Facts, count_to, owns, route, threads_
 pub use Rattle.qrules.proofs.Words.Items.{Finish, Received, answer_completion, ends_receiver, ends_sender}
 pub use Rattle.qrules.proofs.Words.Items.{ends_unblocked, info_completion, item_in, item_sent_over, message_numbered}
 pub use Rattle.qrules.proofs.Words.Items.{names, own_receipt, pulse_item, pulse_receipt, receipt_of, receipt_when_taken}
-pub use Rattle.qrules.proofs.Words.Items.{refusal_completion, unblock_item}
+pub use Rattle.qrules.proofs.Words.Items.{refusal_completion, unblock_item, refusal_if_full_for}
 pub use Rattle.qrules.proofs.Words.Past.{is_failure, made_on, open_call, priority_in}
 pub use Rattle.qrules.proofs.Words.Step.{Follows, after_receipt, after_unblock, after_write, is_cancelled}
 pub use Rattle.qrules.proofs.Words.Step.{items_with_priority_set, one_for, pending_after, priority_taken, put_at}
 pub use Rattle.qrules.proofs.Words.Step.{uncancelled_items, unless, unreceived_items}
-pub use Rattle.qrules.specs.Delivery.{cancel_call, has_to_wait, is_over, newest_receiver, receipt_completion}
-pub use Rattle.qrules.specs.Delivery.{refusal_if_full, refusal_if_full_for}
-pub use Rattle.qrules.specs.Facts.{holds, is_blocked, message, number_of, sender}
+pub use Rattle.qrules.specs.Delivery.{cancel_call, has_to_wait, newest_receiver, receipt_completion, refusal_if_full}
+pub use Rattle.qrules.specs.Delivery.{cancel_where}
+pub use Rattle.qrules.specs.Records.{is_over, blocked_thread, disconnect_item, held_call, info_of_open, is_fixed}
+pub use Rattle.qrules.specs.Records.{is_thread, is_unread_send, receive_of, reply_buffer_in, sender_among, takes}
+pub use Rattle.qrules.specs.Records.{tells_disconnect, tells_unblock, unblocked_call, written_call}
+pub use Rattle.qrules.specs.Facts.{holds, is_blocked, message, number_of, sender, is_in_process}
 pub use Rattle.qrules.specs.Lawful.{IsLawful, event_call, facts_of}
-pub use Rattle.qrules.specs.Outcome.{Answers, MayRefuse, Outcome, completion_to, refusal_of}
-pub use Rattle.qrules.specs.Records.{blocked_thread, cancel_where, disconnect_item, held_call, info_of_open, is_fixed}
-pub use Rattle.qrules.specs.Records.{is_in_process, is_thread, is_unread_send, receive_of, reply_buffer_in}
-pub use Rattle.qrules.specs.Records.{sender_among, takes, tells_disconnect, tells_unblock, unblocked_call, written_call}
-pub use Rattle.qrules.specs.Rules.{row_of}
+pub use Rattle.qrules.specs.Outcome.{Answers, refusal_of}
+pub use Rattle.qrules.proofs.Words.Outcome.{MayRefuse, completion_to, Outcome, row_of}
 pub use Rattle.qrules.specs.Rules.Held.{info_of, refusal_unless_held}
 pub use Rattle.qrules.specs.Rules.Threads.{state_in}
 pub use Rattle.qkernel_state.proofs.ChannelWrites.{sets_items, sets_queue}

@@ -131,7 +131,7 @@ module _ (old : State) (t : ℕ) (c : Call) (X : List Completion) (new : State)
   room_accepted : Outcome true (facts_in old) t c X → Follows (facts_in old) t c true (facts_in new)
       → length X + blocked_count new.threads ≤ blocked_count old.threads + 1
   room_accepted answer follows =
-      let passes = row_passes (facts_in old) t c answer.0 in
+      let passes = row_passes (facts_in old) t c answer.no_refusal in
       let laws = row_laws (facts_in old) t c passes in
       let apart = λ (u : ℕ) (other : eqb u t ≡ false). one_apart u other laws follows in
       let own : one (completion_to (facts_in old) t c t) + one (open_in new.threads t) ≤ 1 =
@@ -141,7 +141,7 @@ module _ (old : State) (t : ℕ) (c : Call) (X : List Completion) (new : State)
       (threads_of (members_of old.threads)) + 1
       = sum_all (completion_to (facts_in old) t c) (open_in old.threads) (open_in new.threads) t
       (threads_of (members_of old.threads)) apart own (rises (members_of old.threads) roster) in
-      rw (answer.1, ← before, ← after follows.roster) sum
+      rw (answer.by_row, ← before, ← after follows.roster) sum
     where
       one_apart : (u : ℕ) → eqb u t ≡ false → RowLaws (facts_in old) t c
           → Follows (facts_in old) t c true (facts_in new)
@@ -170,7 +170,7 @@ module _ (old : State) (t : ℕ) (c : Call) (X : List Completion) (new : State)
       let same : opens (open_in new.threads) (threads_of (members_of old.threads)) ≡ opens (open_in old.threads)
       (threads_of (members_of old.threads)) = opens_same _ _ _ follows.open_call in
       let kept : blocked_count new.threads ≡ blocked_count old.threads = sym (after follows.roster) ∙ same ∙ before in
-      rw (answer.2, kept) (omega arith)
+      rw (answer.only, kept) (omega arith)
 
   pub steps_room : Steps old t c X new → length X + blocked_count new.threads ≤ blocked_count old.threads + 1
   steps_room step = by step.0 step.1 where

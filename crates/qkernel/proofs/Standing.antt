@@ -40,7 +40,7 @@ IsNoFailureOf t x = x.thread ≡ t → is_failure x.mark ≡ true → ⊥
 -- an accepted call's own completion isn't a failure, and its other completions go to other threads
 passed_unfailed : (f : Facts) (t : ℕ) (c : Call) (X : List Completion) → Outcome true f t c X → (e : Errno)
     → X ≡ refusal_completion f t c e ∷ [] → ⊥
-passed_unfailed f t c X a e is = (subst (AllByRecursion (IsNoFailureOf t)) (sym a.1 ∙ is) others).0 refl refl where
+passed_unfailed f t c X a e is = (subst (AllByRecursion (IsNoFailureOf t)) (sym a.by_row ∙ is) others).0 refl refl where
   others : AllByRecursion (IsNoFailureOf t) (filter_map (completion_to f t c) (threads_of f.roster))
   others = all_filter_map (IsNoFailureOf t) (completion_to f t c) (threads_of f.roster) (λ v y given.
       elim (completion_names f t c v y (laws_of f t c X a) given) [

@@ -11,9 +11,9 @@ pub use Rattle.qmodel.specs.declared.open_call.Receipt.{Receipt}
 pub use Rattle.qqueue.specs.Best.{may_take, with_item_priority, with_priority, without_item}
 pub use Rattle.qqueue.specs.declared.item.Item.{Item}
 pub use Rattle.qrules.proofs.Words.Facts.{is_send, number_of, threads_of}
-pub use Rattle.qrules.specs.Delivery.{cancel_call, receipt_completion}
-pub use Rattle.qrules.specs.Records.{cancel_where, held_call, is_after, is_unread_send, message_in, reply_buffer_in}
-pub use Rattle.qrules.specs.Records.{sender_among, takes, unblocked_call, wait_on, with_buffer, written_call}
+pub use Rattle.qrules.specs.Delivery.{cancel_call, receipt_completion, cancel_where, wait_on}
+pub use Rattle.qrules.specs.Records.{held_call, is_after, is_unread_send, message_in, reply_buffer_in}
+pub use Rattle.qrules.specs.Records.{sender_among, takes, unblocked_call, with_buffer, written_call}
 pub use Rattle.qkernel_state.specs.Cancelling.{AreCancelled, Lose, LoseCancelled, call_if_cancelled, completion_for}
 pub use Rattle.qkernel_state.specs.Cancelling.{is_cancelled_among, is_cancelled_by, is_cancelled_open, is_taken_from}
 pub use Rattle.qkernel_state.specs.Cancelling.{thread_after_cancelled, unread_on_by, with_completion}

@@ -1,16 +1,15 @@
 -- The thread whose open call is a Send of this number, by its index and by its thread number.
 use Rattle.qkernel_state.proofs.Common.{◌≡◌, ℕ, suc, zero, ◌+◌, ◌<◌, List, [], ◌∷◌, length, get_or, refl, ap, sym}
 use Rattle.qkernel_state.proofs.Common.{subst, ◌∙◌, cond, arith, true, false, eqb, option_and_then, position_from}
-use Rattle.qkernel_state.proofs.Common.{AllByRecursion, eqb-true, eq-eqb, ne_eqb, true≢false, and_parts}
+use Rattle.qkernel_state.proofs.Common.{AllByRecursion, eqb-true, eq-eqb, ne_eqb, true≢false}
 use Rattle.qkernel_state.proofs.Common.{position_from-zero, same_Some, none-some, IsRoster, Channel, OpenCall, Receive}
 use Rattle.qkernel_state.proofs.Common.{Send, OpenSend, Thread, threads_of, is_send, sender_among, message_in}
 use Rattle.qkernel_state.proofs.Common.{is_sending, open_in, seat_in, sender_in, sent_call, message_from, ChangesOpen}
 use Rattle.qkernel_state.proofs.Common.{ChangesSender, members_of, channel_in, number_at, is_of, Option, None, Some}
-use Rattle.qkernel_state.proofs.Common.{Result, Bool, is_some, find, position, ◌&&◌}
+use Rattle.qkernel_state.proofs.Common.{Result, Bool, is_some, find, position}
 use Rattle.std.specs.Option.{ok_or, option_map, IfNone, IfSome, option_map_or}
 use Rattle.std.specs.Result.{IfErr, IfOk}
-use Rattle.qrules.proofs.Words.Items.{Finish}
-use Rattle.qrules.proofs.Words.Items.{answer_completion}
+use Rattle.qrules.proofs.Words.Items.{Finish, answer_completion}
 use Rattle.qmodel.specs.OpenCalls.{send_in, number_of}
 use Rattle.qkernel_state.specs.Held.{is_held_in, is_held_of}
 use Rattle.qkernel_state.proofs.Seats.{call_here, first_at, first_number, IsFirstAt, first_open}
@@ -143,7 +142,8 @@ module _ (i : ℕ) (threads : List Thread) (k : ℕ) (d : Thread) (r : IsRoster 
 
 send_number : (i : ℕ) (o : Option OpenCall) → is_send i o ≡ true → option_map number_of o ≡ Some i
 send_number i None e = absurd (true≢false (sym e))
-send_number i (Some o) e = ap Some (eqb-true (number_of o) i (and_parts _ _ e).0)
+send_number i (Some (Send s)) e = ap Some (eqb-true s.number i e)
+send_number i (Some (Receive r)) e = absurd (true≢false (sym e))
 
 -- no other thread before it sends the same message, if no two open calls have the same number
 pub sender_alone : (i : ℕ) (threads : List Thread) (k : ℕ) (d : Thread) → k < length threads
@@ -217,7 +217,7 @@ sends_it threads i u e = found (threads_of (members_of threads)) e where
 send_there : (i : ℕ) (o : Option OpenCall) → is_send i o ≡ true → is_some (option_and_then send_in o) ≡ true
 send_there i None e = absurd (true≢false (sym e))
 send_there i (Some (Send s)) e = refl
-send_there i (Some (Receive r)) e = absurd (true≢false (sym (and_parts (eqb r.number i) false e).1))
+send_there i (Some (Receive r)) e = absurd (true≢false (sym e))
 
 pub send_of_sender : (threads : List Thread) (i u : ℕ) → sender_in threads i ≡ Some u
     → is_some (option_and_then send_in (open_in threads u)) ≡ true
@@ -266,7 +266,7 @@ found_passes p (v ∷ us) u e =
 is_sent : (i : ℕ) (o : Option OpenCall) → is_send i o ≡ true → is_sending o ≡ true
 is_sent i None e = absurd (true≢false (sym e))
 is_sent i (Some (Send s)) e = refl
-is_sent i (Some (Receive r)) e = absurd (true≢false (sym (and_parts (eqb r.number i) false e).1))
+is_sent i (Some (Receive r)) e = absurd (true≢false (sym e))
 
 pub sender_sends : (i u : ℕ) (threads : List Thread) → sender_in threads i ≡ Some u
     → is_sending (open_in threads u) ≡ true

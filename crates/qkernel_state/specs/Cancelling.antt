@@ -6,9 +6,8 @@ use Rattle.qbase.specs.declared.errno.Errno.{Errno}
 use Rattle.qmodel.specs.declared.call.Completion.{Completion}
 use Rattle.qmodel.specs.declared.open_call.OpenCall.{OpenCall}
 use Rattle.qmodel.specs.declared.open_call.OpenCall.TheVariants.{Receive, Send}
-use Rattle.qrules.specs.Delivery.{is_on, is_over}
-use Rattle.qrules.specs.Records.{cancel_where}
-use Rattle.qrules.specs.Records.{is_unread_send}
+use Rattle.qrules.specs.Delivery.{is_on, cancel_where}
+use Rattle.qrules.specs.Records.{is_over, is_unread_send}
 use Rattle.qrules.specs.Facts.{threads_of}
 use Rattle.qkernel_state.specs.declared.channel.Channel.{Channel}
 use Rattle.qkernel_state.specs.declared.cancelling.CancelSet.{CancelSet}

@@ -5,7 +5,7 @@ use Rattle.std.specs.Option.{option_map}
 use Rattle.qbase.specs.ByteSet.{has}
 use Rattle.qqueue.specs.declared.item.Item.{Item}
 use Rattle.qtables.specs.Members.{member_at, IsRoster}
-use Rattle.qrules.specs.Records.{wait_on}
+use Rattle.qrules.specs.Delivery.{wait_on}
 use Rattle.qmodel.specs.declared.open_call.OpenCall.{OpenCall}
 use Rattle.qkernel_state.specs.declared.index.IndexGuesses.{IndexGuesses}
 use Rattle.qkernel_state.specs.declared.thread_ref.ThreadRef.{ThreadRef}

@@ -3,8 +3,7 @@
 ghost use Rattle.std.specs.Prelude.{◌≡◌, ◌==◌, ◌&&◌, ◌≤◌, ◌<◌, [], true, Some, None, is_some, length};
 ghost use Rattle.std.specs.Prelude.{filter_map, map, if◌then◌else◌};
 ghost use Rattle.qtables.specs.Members.{IsRoster};
-ghost use Rattle.qrules.specs.Delivery.{is_on, cancel_call};
-ghost use Rattle.qrules.specs.Records.{cancel_where};
+ghost use Rattle.qrules.specs.Delivery.{is_on, cancel_call, cancel_where};
 ghost use Rattle.qrules.specs.Records.{is_unread_send};
 ghost use Rattle.qrules.specs.Facts.{threads_of};
 ghost use Rattle.qkernel_state.specs.Cancelling.{is_cancelled_by, completion_for, with_completion};

@@ -3,7 +3,7 @@
 ghost use Rattle.std.specs.Prelude.{◌≡◌, true, false, IfOk, IfErr};
 ghost use Rattle.qtables.specs.Entries.{entry_at};
 ghost use Rattle.qtables.specs.Members.{member_at};
-ghost use Rattle.qrules.specs.Records.{is_in_process};
+ghost use Rattle.qrules.specs.Facts.{is_in_process};
 ghost use Rattle.qkernel_state.specs.Channel.{own_channel_in};
 ghost use Rattle.qkernel_state.specs.Contents.{members_of};
 ghost use Rattle.qkernel_state.specs.Threads.{IsSeatIn};

@@ -3,9 +3,8 @@
 ghost use Rattle.std.specs.Prelude.{◌≡◌, Some, false, option_map, position, IfSome};
 ghost use Rattle.qbase.specs.Copying.{laid_count, lay_over};
 ghost use Rattle.qqueue.specs.Best.{is_pulse};
-ghost use Rattle.qrules.specs.Facts.{is_send};
+ghost use Rattle.qrules.specs.Records.{is_send, held_call};
 ghost use Rattle.qrules.specs.Delivery.{delivery_of};
-ghost use Rattle.qrules.specs.Records.{held_call};
 ghost use Rattle.qkernel_state.specs.Thread.{sender_in, message_from, ChangesSender, HandsOver};
 ghost use Rattle.qkernel_state.specs.Threads.{IsSeatIn};
 

@@ -3,8 +3,8 @@
 ghost use Rattle.std.specs.Prelude.{◌≡◌, false, true, option_and_then, option_copied, option_map};
 ghost use Rattle.qmodel.specs.OpenCalls.{receive_in, send_in};
 ghost use Rattle.qbase.specs.Copying.{laid_count, lay_over};
-ghost use Rattle.qrules.specs.Records.{held_call, message_in, wait_on};
-ghost use Rattle.qrules.specs.Facts.{is_send};
+ghost use Rattle.qrules.specs.Records.{held_call, message_in, is_send};
+ghost use Rattle.qrules.specs.Delivery.{wait_on};
 ghost use Rattle.qkernel_state.specs.Thread.{is_sending};
 
 use qbase::bytes::Bytes;

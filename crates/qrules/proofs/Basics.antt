@@ -47,7 +47,7 @@ pub use Rattle.qrules.proofs.Words.Items.{sender_for}
 pub use Rattle.qrules.proofs.Words.Lawful.{IsLawful, facts_of, followed_by, with_event}
 pub use Rattle.qrules.proofs.Words.Past.{accepted_at, attached_connection, block, carried_priority, channel_at}
 pub use Rattle.qrules.proofs.Words.Past.{connection_at, copied_count_among, copied_count_in, copied_count_of}
-pub use Rattle.qrules.proofs.Words.Past.{current_priority, filled, first_among, has_completion_of, is_accepted}
+pub use Rattle.qrules.proofs.Words.Past.{current_priority, filled, first_among, completes, is_accepted}
 pub use Rattle.qrules.proofs.Words.Past.{is_destroyed, is_ended, is_gone, is_received, is_unblock_for, item_among}
 pub use Rattle.qrules.proofs.Words.Past.{item_of, items, items_by_now, live_connections, made_on, open_call}
 pub use Rattle.qrules.proofs.Words.Past.{open_channels, pending_items, priority_before, priority_from_completion}

@@ -24,29 +24,29 @@ pub use Rattle.qqueue.specs.Contents.{IsRising}
 pub use Rattle.qqueue.specs.declared.item.Item.{Item}
 pub use Rattle.qqueue.specs.declared.item.Kind.{Kind}
 pub use Rattle.qqueue.specs.declared.item.Kind.TheVariants.{Any, PulseOnly}
-pub use Rattle.qrules.specs.Delivery.{cancel_call, cancels, deliver, delivery_of, is_on, is_over, newest_receiver}
-pub use Rattle.qrules.specs.Delivery.{receipt_completion, refusal_if_full, refusal_if_full_for}
+pub use Rattle.qrules.specs.Delivery.{cancel_call, deliver, delivery_of, is_on, newest_receiver, cancel_where}
+pub use Rattle.qrules.specs.Delivery.{receipt_completion, refusal_if_full, is_last_wait, wait_on}
+pub use Rattle.qrules.specs.Records.{is_over, buffer_of_open, disconnect_item, error_mark, held_call, is_after}
+pub use Rattle.qrules.specs.Records.{is_for_receipt, is_newest, is_thread, is_unread_send, message_in, message_of}
+pub use Rattle.qrules.specs.Records.{newest_receiver_among, reply_buffer_in, sender_among, takes, takes_into}
+pub use Rattle.qrules.specs.Records.{tells_disconnect, tells_unblock, unblocked_call, with_buffer, written_call}
 pub use Rattle.qrules.specs.Facts.{Facts, OpenReceive, OpenSend, has_flag, holds, receive_in, receive_of, route}
 pub use Rattle.qrules.specs.Facts.{send_in, send_of}
 pub use Rattle.qrules.specs.Lawful.{HadMemory, IsOnlyRun, event_call, facts_of, item_made_by, items_and_priorities}
-pub use Rattle.qrules.specs.Outcome.{Answers, MayRefuse, Outcome, completion_to, refusal_of}
-pub use Rattle.qrules.specs.Past.{ReceivedItem, channel_of, item_among, waiter}
-pub use Rattle.qrules.specs.Properties.{AllDifferent, AnsweredToSender, AnswersIts, AnswersOnce, BestFirst}
+pub use Rattle.qrules.specs.Outcome.{Answers, refusal_of}
+pub use Rattle.qrules.proofs.Words.Outcome.{MayRefuse, completion_to, Outcome, row_of}
+pub use Rattle.qrules.specs.Past.{ReceivedItem, item_among, waiter}
+pub use Rattle.qrules.proofs.Words.Made.{channel_of, pulse_over}
+pub use Rattle.qrules.specs.Properties.{AllDifferent, AnsweredToSender, AnswersIts, BestFirst}
 pub use Rattle.qrules.specs.Properties.{CopiedExactly, HasProperties, IsCopied, IsEarliest, IsShut, ReceivedOnce}
 pub use Rattle.qrules.specs.Properties.{SentOrder, ShutForGood, TakesBest, TakesSent, buffer_at, connection_of}
 pub use Rattle.qrules.specs.Properties.{is_answer, items, message_at, number_received, request_of, takeable}
-pub use Rattle.qrules.specs.Records.{buffer_of_open, cancel_where, disconnect_item, error_mark, held_call, is_after}
-pub use Rattle.qrules.specs.Records.{is_for_receipt, is_last_wait, is_newest, is_thread, is_unread_send, message_in}
-pub use Rattle.qrules.specs.Records.{message_of, newest_receiver_among, reply_buffer_in, sender_among, takes}
-pub use Rattle.qrules.specs.Records.{takes_into, tells_disconnect, tells_unblock, unblocked_call, wait_on, with_buffer}
-pub use Rattle.qrules.specs.Records.{written_call}
 pub use Rattle.qrules.specs.Rule.{Effect, PriorityChange, ReceiveRequest, Transfer, buffer_of, own_completion}
-pub use Rattle.qrules.specs.Rules.{effect_of, row_of}
+pub use Rattle.qrules.specs.Rules.{effect_of}
 pub use Rattle.qrules.specs.Rules.Connections.{disconnect_pulse}
 pub use Rattle.qrules.specs.Rules.Held.{info_of, refusal_unless_held}
-pub use Rattle.qrules.specs.Rules.Pulse.{pulse_over}
-pub use Rattle.qrules.specs.Rules.Unblock.{due_pulse_of, guards, pulse_for, unblock_pulse}
-pub use Rattle.qrules.specs.Trace.{AreApart, InEachEvent, call_at, completions_of, gets, thread_at}
+pub use Rattle.qrules.specs.Rules.Unblock.{unblock_pulse}
+pub use Rattle.qrules.specs.Trace.{AreApart, InEachEvent, call_at, completions_of, event_at, gets, thread_at}
 pub use Rattle.qtables.specs.Members.{IsRoster, member_at}
 pub use Rattle.qtables.specs.declared.connection.Connection.{Connection}
 pub use Rattle.qtables.specs.declared.member.Member.{Member}

@@ -3,11 +3,10 @@
 use Rattle.std.specs.Prelude.{◌&&◌, ◌==◌, if◌then◌else◌}
 use Rattle.qrules.specs.Words.{[], count_by, false, find, is_pulse, is_some, laid_count, lay_over, list_any}
 use Rattle.qrules.specs.Words.{may_take, nat_lt, not, option_and_then, option_map, option_map_or, option_or}
-use Rattle.qrules.specs.Words.{Again}
-use Rattle.qrules.specs.Words.{Bool, Completion, Errno, Item, Mark, None, Option, Some}
-use Rattle.qrules.specs.Trace.{Bytes, CallNo, ChannelId, ConnectionId, ThreadNo}
-use Rattle.qrules.specs.Facts.{buffer_in, number_of, receive_of, threads_of, Facts, OpenCall}
-use Rattle.qrules.specs.Rule.{plain_row, Row, SentItem}
+use Rattle.qrules.specs.Words.{Again, Bool, Completion, Errno, Item, List, Mark, None, Option, Some}
+use Rattle.qrules.specs.Trace.{Bytes, CallNo, ChannelId, ThreadNo}
+use Rattle.qrules.specs.Facts.{buffer_in, number_of, receive_in, receive_of, threads_of, Facts, OpenCall}
+use Rattle.qrules.specs.Rule.{own_row, Row, SentItem}
 use Rattle.qrules.specs.Words.mark
 use Rattle.qmodel.specs.declared.open_call.OpenCall.TheVariants.{Receive, Send}
 
@@ -30,9 +29,15 @@ receipt_completion item message u n buffer = record {
 }
 
 -- the number of the open call, if it is a receive on channel h that may take the item
-abbrev pub wait_for : ChannelId → Item → OpenCall → Option CallNo
-wait_for h item (Send s) = None
-wait_for h item (Receive r) = if (r.channel == h) && may_take r.kind item then Some r.number else None
+abbrev pub wait_on : ChannelId → Item → Option OpenCall → Option CallNo
+wait_on h item call = option_and_then
+    (λ r. if (r.channel == h) && may_take r.kind item then Some r.number else None)
+    (option_and_then receive_in call)
+
+-- none of these threads waits on channel h for the item in a later call than n
+abbrev pub is_last_wait : (ThreadNo → Option OpenCall) → ChannelId → Item → List ThreadNo → CallNo → Bool
+is_last_wait open_call h item threads n = not (list_any
+    (λ v. option_map_or (λ m. nat_lt n m) (wait_on h item (open_call v)) false) threads)
 
 -- ---- a cancelled call
 
@@ -41,32 +46,22 @@ abbrev pub is_on : ChannelId → OpenCall → Bool
 is_on h (Send s) = s.channel == h
 is_on h (Receive r) = r.channel == h
 
--- the open call is a Send over connection k
-abbrev pub is_over : ConnectionId → OpenCall → Bool
-is_over k (Send s) = s.connection == k
-is_over k (Receive r) = false
-
 -- the completion of thread u's cancelled call: it fails, and returns its buffer in its current state
 abbrev pub cancel_call : Errno → ThreadNo → OpenCall → Completion
 cancel_call e u o = record { call = number_of o; thread = u; mark = mark.Failed e; buffer = buffer_in o }
 
+-- the completion of thread u's open call, if the condition is true for the call: the call is cancelled with
+-- error e
+abbrev pub cancel_where : (OpenCall → Bool) → Errno → ThreadNo → Option OpenCall → Option Completion
+cancel_where is_cancelled e u call =
+    option_and_then (λ o. if is_cancelled o then Some (cancel_call e u o) else None) call
+
 module _ (f : Facts) where
-  -- the completion of thread u's open call, if the condition is true for u and the call: the call is
-  -- cancelled with error e
-  abbrev pub cancels : (ThreadNo → OpenCall → Bool) → Errno → ThreadNo → Option Completion
-  cancels is_cancelled e u =
-      option_and_then (λ o. if is_cancelled u o then Some (cancel_call e u o) else None) (f.open_call u)
-
-  -- no thread waits on channel h for the item in a later call than n
-  abbrev pub is_last_wait : ChannelId → Item → CallNo → Bool
-  is_last_wait h item n = not (list_any (λ v. option_map_or (λ m. nat_lt n m)
-      (option_and_then (wait_for h item) (f.open_call v)) false) (threads_of f.roster))
-
   -- the newest receiver of the item: of the threads whose open receive on channel h may take it, the thread
   -- whose receive has the greatest number
   abbrev pub newest_receiver : ChannelId → Item → Option ThreadNo
-  newest_receiver h item = find (λ u. option_map_or (is_last_wait h item)
-      (option_and_then (wait_for h item) (f.open_call u)) false) (threads_of f.roster)
+  newest_receiver h item = find (λ u. option_map_or (is_last_wait f.open_call h item (threads_of f.roster))
+      (wait_on h item (f.open_call u)) false) (threads_of f.roster)
 
   -- the completion of thread u's open call, if an item is sent and u takes it
   abbrev pub deliver : Option SentItem → Bytes → ThreadNo → Option Completion
@@ -83,13 +78,9 @@ module _ (f : Facts) where
   refusal_if_full h =
       if nat_lt (count_by (λ x. is_pulse x.what) (f.pending h)) 1024 then None else Some Again
 
-  -- Again if a pulse is sent to a channel on which 1,024 pulses are queued
-  abbrev pub refusal_if_full_for : Option SentItem → Option Errno
-  refusal_if_full_for pulse = option_and_then (λ m. refusal_if_full m.channel) pulse
-
   -- the row of a call that completes with Ok, cancels these calls of other threads, and may send a pulse
   abbrev pub pulse_row : ThreadNo → Option Errno → (ThreadNo → Option Completion) → Option SentItem → Row
-  pulse_row t refusal cancellations pulse = record (plain_row f t refusal mark.Ok) {
+  pulse_row t refusal cancellations pulse = record (own_row f t refusal mark.Ok []) {
     takes_memory = has_to_wait pulse;
     others = λ u. option_or (cancellations u) (deliver pulse [] u);
   }

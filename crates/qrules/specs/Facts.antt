@@ -1,12 +1,10 @@
 -- The facts that a rule may read of the history.
 use Rattle.std.specs.Prelude.{◌&&◌, ◌+◌, ◌==◌, if◌then◌else◌}
 use Rattle.qrules.specs.Words.{[], bit_and, false, filter_map, find, is_some, map, member_at, option_and_then}
-use Rattle.qrules.specs.Words.{true}
 use Rattle.qrules.specs.Words.{option_map, option_map_or, Bool, Connection, Item, List}
 use Rattle.qrules.specs.Words.{Member, None, Option, Some, ℕ}
 use Rattle.qrules.specs.Trace.{Bytes, CallNo, ChannelId, ConnectionId, Priority, ProcessNo, ReceiveId}
 use Rattle.qrules.specs.Trace.{ThreadNo}
-use Rattle.qmodel.specs.declared.open_call.OpenCall.TheVariants.{Receive, Send}
 pub use Rattle.qmodel.specs.Trace.{OpenChannel}
 pub use Rattle.qmodel.specs.declared.open_call.Receipt.{Receipt}
 pub use Rattle.qmodel.specs.declared.open_call.OpenCall.{OpenCall}
@@ -40,34 +38,26 @@ abbrev pub count_to : {A : Type 0} → (ℕ → Option A) → ℕ → ℕ
 count_to at Prim.Native.Nat.zero = 0
 count_to at (Prim.Native.Nat.suc n) = (if is_some (at (n + 1)) then 1 else 0) + count_to at n
 
--- the open call is a Send, which waits for a reply
-abbrev pub is_for_answer : OpenCall → Bool
-is_for_answer (Send s) = true
-is_for_answer (Receive r) = false
-
--- there is an open call, and it is the Send of number i
-abbrev pub is_send : ReceiveId → Option OpenCall → Bool
-is_send i call = option_map_or (λ o. (number_of o == i) && is_for_answer o) call false
+-- there is a member, and it is of process p
+abbrev pub is_in_process : ProcessNo → Option Member → Bool
+is_in_process p member = option_map_or (λ m. m.process == p) member false
 
 module _ (f : Facts) where
-  -- thread t is in the roster, in process p
-  abbrev pub is_of_process : ThreadNo → ProcessNo → Bool
-  is_of_process t p = option_map_or (λ m. m.process == p) (member_at f.roster t) false
-
   -- threads t and u are in the roster, in the same process
   abbrev pub is_of_same_process : ThreadNo → ThreadNo → Bool
-  is_of_same_process t u = option_map_or (λ m. is_of_process u m.process) (member_at f.roster t) false
+  is_of_same_process t u =
+      option_map_or (λ m. is_in_process m.process (member_at f.roster u)) (member_at f.roster t) false
 
   -- channel h is open, and the process of thread t owns it
   abbrev pub owns : ThreadNo → ChannelId → Bool
-  owns t h = option_map_or (λ c. is_of_process t c.owner) (f.channel h) false
+  owns t h = option_map_or (λ c. is_in_process c.owner (member_at f.roster t)) (f.channel h) false
 
   -- the open channel to which thread t may send over connection k. It is None unless the process of t
   -- attached the connection, which is live, and the channel is open.
   abbrev pub route : ThreadNo → ConnectionId → Option ChannelId
   route t k = option_and_then
-      (λ c. if is_of_process t c.process && is_some (f.channel c.channel) then Some c.channel else None)
-      (f.connection k)
+      (λ c. if is_in_process c.process (member_at f.roster t) && is_some (f.channel c.channel)
+      then Some c.channel else None) (f.connection k)
 
   -- the Send in which thread t is blocked
   abbrev pub send_of : ThreadNo → Option OpenSend
@@ -95,7 +85,7 @@ module _ (f : Facts) where
 
   -- the thread that is blocked in the Send of number i
   abbrev pub sender : ReceiveId → Option ThreadNo
-  sender i = find (λ t. is_send i (f.open_call t)) (threads_of f.roster)
+  sender i = find (λ t. option_map_or (λ s. s.number == i) (send_of t) false) (threads_of f.roster)
 
   -- the open Send of number i
   abbrev pub open_send : ReceiveId → Option OpenSend

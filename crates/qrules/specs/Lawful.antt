@@ -3,7 +3,7 @@ use Rattle.std.specs.Prelude.{◌++◌, ◌+◌, ◌==◌, ◌∷◌, ◌≡◌,
 use Rattle.qrules.specs.Words.{[], is_some, length, map, member_at, option_and_then}
 use Rattle.qrules.specs.Words.{option_map_or, option_or, option_to_list, unwrap_or, AllByRecursion}
 use Rattle.qrules.specs.Words.{Call, IsTrue, List, Member, NoMemory, None, Option, Some}
-use Rattle.qrules.specs.Trace.{followed_by, CallNo, Event, InEachEvent, Priority, ThreadNo, Trace}
+use Rattle.qrules.specs.Trace.{followed_by, Event, InEachEvent, Priority, ThreadNo, Trace}
 use Rattle.qrules.specs.Facts.{count_to, has_flag, Facts}
 use Rattle.qrules.specs.Rule.{SentItem}
 use Rattle.qrules.specs.Rules.{effect_of}
@@ -38,19 +38,13 @@ module _ (roster : List Member) where
     priority = known.priority;
   }
 
-  -- the priority that a receiver of item i takes: the item's current priority, unless the channel fixes
-  -- priorities
-  abbrev pub carried_priority : Trace → List SentItem → CallNo → Option Priority
-  carried_priority past items i = option_and_then
-      (λ m. if has_flag 1 (channel_at roster past m.channel) then None else Some m.item.priority)
-      (item_among (items_by_now past items) i)
-
-  -- the priority that thread t takes by event e: the priority that the event sets for t, or the priority of
-  -- the item that t receives
+  -- the priority that thread t takes by event e: the priority that the event sets for t, or the current
+  -- priority of the item that t receives, unless the item's channel fixes priorities
   abbrev pub priority_given_by : Event → Trace → List SentItem → ThreadNo → Option Priority
   priority_given_by e past items t = option_or (priority_set_by e past t) (first_among
-      (λ x. if x.thread == t then option_and_then (λ r. carried_priority past items r.number) (item_in x.mark)
-      else None) e.completions)
+      (λ x. if x.thread == t then option_and_then (λ r. option_and_then
+      (λ m. if has_flag 1 (channel_at roster past m.channel) then None else Some m.item.priority)
+      (item_among (items_by_now past items) r.number)) (item_in x.mark) else None) e.completions)
 
   -- all items made, and the threads' priorities: each accepted event may make an item, and a thread begins
   -- with the priority in the roster

@@ -2,12 +2,12 @@
 use Rattle.std.specs.Prelude.{◌&&◌, ◌+◌, ◌==◌, ◌||◌, ◌∷◌, if◌then◌else◌}
 use Rattle.qrules.specs.Words.{[], false, filter, find, is_pulse, is_some, lay_over, length}
 use Rattle.qrules.specs.Words.{list_any, map, member_at, not, option_and_then, option_map, option_map_or}
-use Rattle.qrules.specs.Words.{option_or, true, unwrap_or, with_priority, Bool, Connection, Item}
+use Rattle.qrules.specs.Words.{option_or, true, unwrap_or, Bool, Connection, Item}
 use Rattle.qrules.specs.Words.{Call, Completion, List, Mark, Member, None, Option, Some, What, ℕ}
-use Rattle.qrules.specs.Trace.{Bytes, CallNo, ChannelId, ConnectionId, Event, Priority, ReceiveId}
+use Rattle.qrules.specs.Trace.{completes, Bytes, CallNo, ChannelId, ConnectionId, Event, Priority, ReceiveId}
 use Rattle.qrules.specs.Trace.{ThreadNo, Trace}
-use Rattle.qrules.specs.Facts.{number_of, OpenCall, OpenChannel, OpenSend}
-use Rattle.qrules.specs.Rule.{Effect, SentItem, Transfer}
+use Rattle.qrules.specs.Facts.{number_of, OpenCall, OpenChannel}
+use Rattle.qrules.specs.Rule.{Effect, SentItem}
 use Rattle.qrules.specs.Rules.{effect_of}
 use Rattle.qrules.specs.Words.mark
 use Rattle.qmodel.specs.declared.open_call.OpenCall.TheVariants.{Receive, Send}
@@ -44,7 +44,7 @@ is_number number i = option_map_or (λ n. n == i) number false
 
 -- call i has completed
 abbrev pub is_ended : Trace → CallNo → Bool
-is_ended past i = list_any (λ e. list_any (λ x. x.call == i) e.completions) past
+is_ended past i = list_any (λ e. completes e.completions i) past
 
 -- a received item: its number, and how many bytes were copied, which is 0 for a pulse
 pub record ReceivedItem : Type 0 where
@@ -80,15 +80,12 @@ is_received past i = is_some (copied_count_of past i)
 abbrev pub is_destroyed : Trace → ChannelId → Bool
 is_destroyed past h = was_done (λ e. is_number e.destroys h) past
 
--- channel h as it was created, owned by the process of the thread that created it
-abbrev pub created_channel : List Member → Trace → ChannelId → Option OpenChannel
-created_channel roster past h = accepted_at (λ e. option_and_then
+-- channel h, if it is open: it was created, and hasn't been destroyed. The process of the thread that created
+-- it owns it.
+abbrev pub channel_at : List Member → Trace → ChannelId → Option OpenChannel
+channel_at roster past h = if is_destroyed past h then None else accepted_at (λ e. option_and_then
     (λ m. option_map (λ flags. record { owner = m.process; flags = flags }) (effect_of e.call).creates)
     (member_at roster e.thread)) past h
-
--- channel h, if it is open: it was created, and hasn't been destroyed
-abbrev pub channel_at : List Member → Trace → ChannelId → Option OpenChannel
-channel_at roster past h = if is_destroyed past h then None else created_channel roster past h
 
 -- connection k as it was attached, by the process of the thread that attached it
 abbrev pub attached_connection : List Member → Trace → ConnectionId → Option Connection
@@ -106,14 +103,6 @@ connection_at roster past k =
 -- the item among these that has number i
 abbrev pub item_among : List SentItem → CallNo → Option SentItem
 item_among items i = find (λ m. m.item.number == i) items
-
--- the priority of an item; 0 if there is none
-abbrev pub priority_of_item : Option SentItem → Priority
-priority_of_item item = option_map_or (λ m. m.item.priority) item 0
-
--- the channel of an item; 0 if there is none
-abbrev pub channel_of : Option SentItem → ChannelId
-channel_of item = option_map_or (λ m. m.channel) item 0
 
 -- the thread that sent message i
 abbrev pub sender_of : Trace → ReceiveId → Option ThreadNo
@@ -142,7 +131,7 @@ current_priority past item = if is_pulse item.what then item.priority
 -- these items with their current priorities
 abbrev pub items_by_now : Trace → List SentItem → List SentItem
 items_by_now past items = map
-    (λ m. record { item = with_priority (current_priority past m.item) m.item; channel = m.channel }) items
+    (λ (m : SentItem). record m { item = record m.item { priority = current_priority past m.item } }) items
 
 -- the item is no longer queued: it has been received, or it is a message whose Send has completed
 abbrev pub is_gone : Trace → Item → Bool
@@ -155,17 +144,12 @@ pending_among past items h = if is_destroyed past h then []
 
 -- ---- open calls
 
--- the reply buffer of message i after this Write, if there is one and it is to message i
-abbrev pub buffer_after_write : Option Transfer → ReceiveId → Bytes → Bytes
-buffer_after_write written i b =
-    option_map_or (λ w. if w.rcvid == i then lay_over b w.offset w.bytes else b) written b
-
 -- the reply buffer of message i, which was b at its Send, after each accepted Write to it, in order
 abbrev pub with_writes : Trace → ReceiveId → Bytes → Bytes
 with_writes [] i b = b
-with_writes (e ∷ past) i b =
-    if is_accepted e past then buffer_after_write (effect_of e.call).writes i (with_writes past i b)
-    else with_writes past i b
+with_writes (e ∷ past) i b = let before : Bytes = with_writes past i b in if is_accepted e past
+    then option_map_or (λ w. if w.rcvid == i then lay_over before w.offset w.bytes else before)
+    (effect_of e.call).writes before else before
 
 -- the thread of the event, if its call may block: a Send or a receive
 abbrev pub waiter : Event → Option ThreadNo
@@ -203,24 +187,21 @@ asks n t h c = option_or
 abbrev pub newest_block : List SentItem → Trace → ThreadNo → Option OpenCall
 newest_block items [] t = None
 newest_block items (e ∷ past) t =
-    let n = length past + 1 in let asked = asks n t (channel_of (item_among items n)) e.call in
+    let n = length past + 1 in
+    let asked = asks n t (option_map_or (λ m. m.channel) (item_among items n) 0) e.call in
     if (e.thread == t) && is_accepted e past && is_some asked then asked else newest_block items past t
 
--- an open Send in its current state: its reply buffer after all Writes, and the receipt of its message. The
--- items have their current priorities.
-abbrev pub send_by_now : Trace → List SentItem → OpenSend → OpenSend
-send_by_now past items s = record s {
+-- an open call in its current state: a Send has its reply buffer after all Writes, and the receipt of its
+-- message. The items have their current priorities.
+abbrev pub call_by_now : Trace → List SentItem → OpenCall → OpenCall
+call_by_now past items (Send s) = Send (record s {
   reply_buffer = with_writes past s.number s.reply_buffer;
   receipt = option_map (λ copied. record {
-    priority = priority_of_item (item_among items s.number);
+    priority = option_map_or (λ m. m.item.priority) (item_among items s.number) 0;
     copied = copied;
     unblocked = list_any (λ m. is_unblock_for s.number m.item.what) items;
   }) (copied_count_of past s.number);
-}
-
--- an open call in its current state
-abbrev pub call_by_now : Trace → List SentItem → OpenCall → OpenCall
-call_by_now past items (Send s) = Send (send_by_now past items s)
+})
 call_by_now past items (Receive r) = Receive r
 
 -- the open call of thread t: its newest accepted Send or receive, unless that has completed. The items are

@@ -5,12 +5,12 @@ use Rattle.qrules.specs.Words.{lay_over, map, not, option_and_then, option_map, 
 use Rattle.qrules.specs.Words.{true, AllByRecursion, Any, Bool, Completion, Item, List}
 use Rattle.qrules.specs.Words.{Mark, Member, None, Option, Some, ℕ}
 use Rattle.qrules.specs.Trace.{call_at, completions_of, Bytes, CallNo, ChannelId, ConnectionId, Event}
-use Rattle.qrules.specs.Trace.{InEachEvent, Priority, ReceiveId, ThreadNo, Trace}
+use Rattle.qrules.specs.Trace.{InEachEvent, ReceiveId, ThreadNo, Trace}
 use Rattle.qrules.specs.Facts.{owns, receive_of, send_of, OpenReceive, OpenSend}
 use Rattle.qrules.specs.Rule.{buffer_of, ReceiveRequest, SentItem, Transfer}
 use Rattle.qrules.specs.Rules.{effect_of}
 use Rattle.qrules.specs.Past.{attached_connection, is_accepted, is_destroyed, is_ended, is_received}
-use Rattle.qrules.specs.Past.{item_among, item_in, items_by_now, priority_of_item, sender_of, with_writes}
+use Rattle.qrules.specs.Past.{item_among, item_in, items_by_now, sender_of, with_writes}
 use Rattle.qrules.specs.Lawful.{facts_of, item_made_by, items_and_priorities}
 use Rattle.qrules.specs.Words.mark
 
@@ -59,17 +59,13 @@ pub record AnswersIts (roster : List Member) (past : Trace) (e : Event) (x : Com
       (item_among (items roster past) x.call) false ≡ true
   pub sender : sender_of past x.call ≡ Some x.thread
 
--- an accepted call that replies to a message causes exactly one completion of that message's Send
-abbrev pub AnswersOnce : Trace → Event → Type 0
-AnswersOnce past e = (i : ReceiveId) → (effect_of e.call).answers ≡ Some i → is_accepted e past ≡ true
-    → count_by (λ x. x.call == i) e.completions ≡ 1
-
 -- each completion that is a reply meets AnswersIts, and each accepted call that replies causes exactly one
 -- completion of its message's Send
 abbrev pub AnsweredToSender : List Member → Trace → Type 0
 AnsweredToSender roster = InEachEvent (λ past e.
     AllByRecursion (λ x. is_answer x.mark ≡ true → AnswersIts roster past e x) e.completions
-    × AnswersOnce past e)
+    × ((i : ReceiveId) → (effect_of e.call).answers ≡ Some i → is_accepted e past ≡ true
+    → count_by (λ x. x.call == i) e.completions ≡ 1))
 
 -- ---- every buffer and every count is exactly as the copying requires
 
@@ -159,15 +155,12 @@ pub record TakesSent (past : Trace) (x : Completion) (j : CallNo) (k : Connectio
   pub item : number_received x ≡ Some j
   pub connection : connection_of past j ≡ Some k
 
--- the priority of item i before event e, or the priority with which the event makes it
-abbrev pub priority_before : List Member → Trace → Event → CallNo → Priority
-priority_before roster past e i =
-    priority_of_item (item_among (items_by_now past (items roster (e ∷ past))) i)
-
--- no item that could be taken, was sent over connection k and had the priority of item j is earlier than j
+-- no item that could be taken, was sent over connection k and had the priority of item j is earlier than j.
+-- The priority of item j is the one before event e, or the one with which the event makes it.
 abbrev pub IsEarliest : List Member → Trace → Event → CallNo → ConnectionId → Type 0
 IsEarliest roster past e j k = (h : ChannelId) → AllByRecursion
-    (λ item. connection_of (e ∷ past) item.number ≡ Some k → item.priority ≡ priority_before roster past e j
+    (λ item. connection_of (e ∷ past) item.number ≡ Some k → option_map (λ m. m.item.priority)
+    (item_among (items_by_now past (items roster (e ∷ past))) j) ≡ Some item.priority
     → j ≤ item.number) (takeable roster past e h)
 
 -- a Receive that takes an item sent over a connection takes the earliest of that connection and priority

@@ -2,12 +2,11 @@
 -- about the records that `Kernel::threads` lends.
 use Rattle.std.specs.Option.{option_and_then, option_map, option_map_or}
 use Rattle.std.specs.Prelude.{ℕ, ℤ, pos, ◌==◌, ◌&&◌, not, is_some, nat_lt, count_by, find, Bool, false, true}
-use Rattle.std.specs.Prelude.{List}
-use Rattle.std.specs.Prelude.{[], Option, None, Some, if◌then◌else◌}
-use Rattle.std.specs.List.{list_any}
+use Rattle.std.specs.Prelude.{List, [], Option, None, Some, if◌then◌else◌}
 use Rattle.std.specs.Ordering.{int_eq}
 use Rattle.qbase.specs.Copying.{lay_over}
-use Rattle.qbase.specs.declared.errno.Errno.{Errno}
+use Rattle.qbase.specs.declared.state.ThreadState.{ThreadState}
+use Rattle.qbase.specs.declared.state.ThreadState.TheVariants.{Ready}
 use Rattle.qqueue.specs.Best.{is_pulse}
 use Rattle.qqueue.specs.declared.item.Item.{Item}
 use Rattle.qqueue.specs.declared.item.Kind.{Kind}
@@ -24,17 +23,14 @@ use Rattle.qmodel.specs.declared.open_call.Blocked.{Blocked}
 use Rattle.qmodel.specs.declared.open_call.OpenCall.{OpenCall}
 use Rattle.qmodel.specs.declared.open_call.OpenCall.TheVariants.{Send, Receive}
 use Rattle.qmodel.specs.declared.open_call.Receipt.{Receipt}
-use Rattle.qmodel.specs.Trace.{CallNo, ChannelId, OpenChannel, Priority, ProcessNo, ReceiveId, ThreadNo}
-use Rattle.qrules.specs.Delivery.{cancel_call, is_on, receipt_completion, wait_for}
-use Rattle.qrules.specs.Facts.{buffer_in, has_flag, is_send, number_of}
-use Rattle.qrules.specs.Rules.Held.{info_of_call}
+use Rattle.qmodel.specs.Trace.{CallNo, ChannelId, ConnectionId, OpenChannel, Priority, ProcessNo, ReceiveId}
+use Rattle.qmodel.specs.Trace.{ThreadNo}
+use Rattle.qrules.specs.Delivery.{is_last_wait, is_on, receipt_completion, wait_on}
+use Rattle.qrules.specs.Facts.{buffer_in, has_flag, number_of, send_in, Facts}
+use Rattle.qrules.specs.Rules.Held.{info_of_send}
 use Rattle.qrules.specs.Rules.Threads.{state_in}
 
 -- ---- threads and channels
-
--- there is a member, and it is of process p
-abbrev pub is_in_process : ProcessNo → Option Member → Bool
-is_in_process p m = option_map_or (λ m. m.process == p) m false
 
 -- there is a thread, and it is thread u
 abbrev pub is_thread : Option ThreadNo → ThreadNo → Bool
@@ -85,7 +81,15 @@ reply_buffer_in call = option_map_or reply_buffer_of call []
 
 -- the data of a member's message; None unless its open call is a Send whose message has been received
 abbrev pub info_of_open : Member → Option OpenCall → Option Info
-info_of_open m call = option_and_then (info_of_call m) call
+info_of_open m call = option_and_then (info_of_send m) (option_and_then send_in call)
+
+-- there is an open call, and it is the Send of number i
+abbrev pub is_send : ReceiveId → Option OpenCall → Bool
+is_send i call = option_map_or (λ s. s.number == i) (option_and_then send_in call) false
+
+-- the open call is a Send over connection k
+abbrev pub is_over : ConnectionId → OpenCall → Bool
+is_over k o = option_map_or (λ s. s.connection == k) (send_in o) false
 
 -- the first of these threads whose open call is the Send of number i
 abbrev pub sender_among : (ThreadNo → Option OpenCall) → ReceiveId → List ThreadNo → Option ThreadNo
@@ -113,18 +117,9 @@ unblocked_call (Receive r) = Receive r
 
 -- ---- open receives
 
--- the number of a thread's open call, if it is a receive on channel h that may take the item
-abbrev pub wait_on : ChannelId → Item → Option OpenCall → Option CallNo
-wait_on h item call = option_and_then (wait_for h item) call
-
 -- there is a call, and it is later than call m
 abbrev pub is_after : CallNo → Option CallNo → Bool
 is_after m number = option_map_or (λ n. nat_lt m n) number false
-
--- none of these threads waits on channel h for the item in a call later than m
-abbrev pub is_last_wait : (ThreadNo → Option OpenCall) → ChannelId → Item → List ThreadNo → CallNo → Bool
-is_last_wait open_call h item threads m =
-    not (list_any (λ v. is_after m (wait_on h item (open_call v))) threads)
 
 -- thread u waits on channel h for the item, and none of these threads waits for it in a later call
 abbrev pub is_newest : (ThreadNo → Option OpenCall) → ChannelId → Item → List ThreadNo → ThreadNo → Bool
@@ -159,12 +154,6 @@ takes_into item message u (Receive r) = Some (receipt_completion item message u 
 abbrev pub takes : Item → List ℕ → ThreadNo → Option OpenCall → Option Completion
 takes item message u call = option_and_then (takes_into item message u) call
 
--- the completion of thread u's open call, if the condition is true for the call: the call is cancelled with
--- error e
-abbrev pub cancel_where : (OpenCall → Bool) → Errno → ThreadNo → Option OpenCall → Option Completion
-cancel_where is_cancelled e u call =
-    option_and_then (λ o. if is_cancelled o then Some (cancel_call e u o) else None) call
-
 -- the result of a Send whose message gets an Error with this code
 abbrev pub error_mark : ℤ → Mark
 error_mark code = if int_eq code (pos 0) then mark.Replied (pos 0) 0 else mark.Errored code
@@ -178,6 +167,10 @@ pulses_among items = count_by (λ x. is_pulse x.what) items
 -- the disconnect pulse of this number and priority for process p
 abbrev pub disconnect_item : CallNo → Priority → ProcessNo → Item
 disconnect_item n priority p = record { number = n; priority = priority; what = what.Disconnect p }
+
+-- the state of a thread, by its open call; it is ready if it has none
+abbrev pub state_of : Facts → ThreadNo → ThreadState
+state_of f t = option_map_or state_in (f.open_call t) Ready
 
 -- the record of a blocked thread; None if it has no open call
 abbrev pub blocked_thread : ThreadNo → Option OpenCall → Option Blocked

@@ -1,6 +1,6 @@
 -- The rule of a call: its row, which says what it returns, and its effect.
-use Rattle.qrules.specs.Words.{[], false, Bool, ChannelFlags, Completion}
-use Rattle.qrules.specs.Words.{Errno, Kind, Mark, None, Option, Some, What, ℕ, ℤ}
+use Rattle.qrules.specs.Words.{false, Bool, ChannelFlags, Completion}
+use Rattle.qrules.specs.Words.{Errno, Kind, Mark, None, Option, option_map, Some, What, ℕ, ℤ}
 use Rattle.qrules.specs.Trace.{Bytes, ChannelId, ConnectionId, Priority, ReceiveId, ThreadNo}
 use Rattle.qrules.specs.Facts.{Facts}
 pub use Rattle.qmodel.specs.Buffers.{buffer_of}
@@ -17,8 +17,8 @@ pub record Row : Type 0 where
 abbrev pub own_completion : Facts → ThreadNo → Mark → Bytes → Completion
 own_completion f t mark buffer = record { call = f.number; thread = t; mark = mark; buffer = buffer }
 
--- the row of a call that completes in its own event, with this result and this buffer, and causes no other
--- completion
+-- the row of a call that completes in its own event, with this result and this buffer (empty if it has none),
+-- and causes no other completion
 abbrev pub own_row : Facts → ThreadNo → Option Errno → Mark → Bytes → Row
 own_row f t refusal mark buffer =
     record {
@@ -27,10 +27,6 @@ own_row f t refusal mark buffer =
       own = Some (own_completion f t mark buffer);
       others = λ u. None;
     }
-
--- own_row of a call that has no buffer
-abbrev pub plain_row : Facts → ThreadNo → Option Errno → Mark → Row
-plain_row f t refusal mark = own_row f t refusal mark []
 
 -- the operands of a Send
 pub record SendRequest : Type 0 where
@@ -100,3 +96,7 @@ pub record Rule : Type 0 where
 abbrev pub new_item : Facts → Priority → What → ChannelId → SentItem
 new_item f priority what h =
     record { item = record { number = f.number; priority = priority; what = what }; channel = h }
+
+-- the item that the call sends over connection k, with this priority and content
+abbrev pub item_over : Facts → ConnectionId → Priority → What → Option SentItem
+item_over f k priority what = option_map (λ c. new_item f priority what c.channel) (f.connection k)

@@ -9,9 +9,7 @@ pub mod Threads
 pub mod Unblock
 pub mod Shutdown
 use Rattle.qrules.specs.Words.{[], Any, Call, PulseOnly}
-use Rattle.qrules.specs.Trace.{ThreadNo}
-use Rattle.qrules.specs.Facts.{Facts}
-use Rattle.qrules.specs.Rule.{Effect, Row, Rule}
+use Rattle.qrules.specs.Rule.{Effect, Rule}
 use Channels.{channel_create, channel_destroy}
 use Connections.{connect_attach, connect_detach}
 use Send.{send}
@@ -43,10 +41,6 @@ rule_of (calls.PrioritySet thread priority) = priority_set (record { thread = th
 rule_of (calls.State thread) = state thread
 rule_of (calls.Unblock thread) = unblock thread
 rule_of calls.Shutdown = shutdown
-
--- the row of a call of thread t
-abbrev pub row_of : Facts → ThreadNo → Call → Row
-row_of f t c = (rule_of c).row f t
 
 -- the effect of a call, if it is accepted
 abbrev pub effect_of : Call → Effect

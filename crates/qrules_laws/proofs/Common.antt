@@ -38,20 +38,19 @@ pub use Rattle.qrules.proofs.Words.Effects.{thread_of_send, unblocks}
 pub use Rattle.qrules.proofs.Words.Facts.{Facts, Facts as OldFacts, count_to, number_of, threads_of}
 pub use Rattle.qrules.proofs.Words.Items.{Received, names, receipt_of}
 pub use Rattle.qrules.proofs.Words.Lawful.{IsLawful, facts_of}
-pub use Rattle.qrules.proofs.Words.Past.{accepted_at, block, current_priority, has_completion_of, is_accepted}
+pub use Rattle.qrules.proofs.Words.Past.{accepted_at, block, current_priority, completes, is_accepted}
 pub use Rattle.qrules.proofs.Words.Past.{is_destroyed, is_down, is_ended, is_gone, is_received, is_unblock_for, item_of}
 pub use Rattle.qrules.proofs.Words.Past.{items, made_on, open_call, pending_items, priority_before, priority_of_thread}
 pub use Rattle.qrules.proofs.Words.Past.{sender_of, unblocked_among}
 pub use Rattle.qrules.proofs.Words.Step.{is_cancelled, items_with_priority_set, one_for, open_call_after, pending_after}
 pub use Rattle.qrules.proofs.Words.Step.{priority_taken, uncancelled_items, unreceived_items}
-pub use Rattle.qrules.specs.Delivery.{newest_receiver, refusal_if_full, wait_for}
-pub use Rattle.qrules.specs.Outcome.{Answers, Outcome, completion_to}
-pub use Rattle.qrules.specs.Past.{attached_connection, channel_at, connection_at, created_channel, is_number, waiter}
-pub use Rattle.qrules.specs.Past.{was_done}
+pub use Rattle.qrules.specs.Delivery.{newest_receiver, refusal_if_full, wait_on}
+pub use Rattle.qrules.specs.Outcome.{Answers}
+pub use Rattle.qrules.proofs.Words.Outcome.{completion_to, Outcome, row_of}
+pub use Rattle.qrules.specs.Past.{attached_connection, channel_at, connection_at, is_number, waiter, was_done}
 pub use Rattle.qrules.specs.Properties.{TakesBest, number_received, takeable}
 pub use Rattle.qrules.specs.Records.{is_for_receipt, is_unread_send, pulses_among}
 pub use Rattle.qrules.specs.Rule.{Effect, PriorityChange, ReceiveRequest}
-pub use Rattle.qrules.specs.Rules.{row_of}
 pub use Rattle.qrules.specs.Trace.{RiseByThread, completions_of}
 pub use Rattle.qtables.specs.Members.{IsRoster, member_at}
 pub use Rattle.qtables.specs.declared.member.Member.{Member}

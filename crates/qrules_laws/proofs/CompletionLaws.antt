@@ -1,7 +1,7 @@
 -- The laws of the completions of one event.
 use Rattle.qrules_laws.proofs.Common.{AllByRecursion, Completion, Event, Member, RiseByThread, SentItem, TakesBest}
 use Rattle.qrules_laws.proofs.Common.{Trace, accepted, all_more, and_from, best_first, completion_to, cons_option}
-use Rattle.qrules_laws.proofs.Common.{ended_below, ends_own, eq-eqb, filter_map, has_completion_of, is_accepted}
+use Rattle.qrules_laws.proofs.Common.{ended_below, ends_own, eq-eqb, filter_map, completes, is_accepted}
 use Rattle.qrules_laws.proofs.Common.{is_ended, item_at, item_over, items, laws_of, list_any, made_newest, none-some}
 use Rattle.qrules_laws.proofs.Common.{none_of, number_received, option_map, or_parts, passes_of, past_follows, row_of}
 use Rattle.qrules_laws.proofs.Common.{shut_for_good, taken_matches, threads_of, waiter, waits_or_ends, ◌<◌, inl, inr}
@@ -43,10 +43,10 @@ given_rise g (u ∷ ts) names r = elim (g u) as (λ o. g u ≡ o → RiseByThrea
 pub completions_rise_by_thread : Completions.CompletionsRiseByThread
 completions_rise_by_thread roster past e r l = elim (l.1.1) [
   | inl a ↦ let f = old.facts_of roster past in
-      subst RiseByThread (sym a.1)
+      subst RiseByThread (sym a.by_row)
       (given_rise (completion_to f e.thread e.call) (threads_of roster)
       (completion_thread f e.thread e.call (laws_of f e.thread e.call e.completions a)) (rises roster r))
-  | inr a ↦ subst RiseByThread (sym a.2) (tt, tt)
+  | inr a ↦ subst RiseByThread (sym a.only) (tt, tt)
 ]
 
 pub completions_go_to_blocked : Completions.CompletionsGoToBlocked
@@ -57,7 +57,7 @@ completions_go_to_blocked roster past e r l =
 
 -- a call that doesn't complete in its own event is accepted and may block
 waits : (roster : List Member) (past : Trace) (e : Event) → old.IsLawful roster (e ∷ past)
-    → has_completion_of e.completions (length past + 1) ≡ false → (is_accepted e past ≡ true)
+    → completes e.completions (length past + 1) ≡ false → (is_accepted e past ≡ true)
     × (waiter e ≡ Some e.thread)
 waits roster past e l none = elim (l.1.1) [
   | inl a ↦
@@ -69,7 +69,7 @@ waits roster past e l none = elim (l.1.1) [
         rw
             (waits_or_ends f e.thread e.call (passes_of f e.thread e.call e.completions a) own) refl,
       )
-  | inr a ↦ absurd (grind (arith, nat_tests, a.2, none))
+  | inr a ↦ absurd (grind (arith, nat_tests, a.only, none))
 ]
 
 pub ends_or_waits : Completions.EndsOrWaits
@@ -81,7 +81,7 @@ ends_or_waits roster past e r l =
             waits = made_newest waiter e past w.0 ∙ w.1;
             going = rw (none, ended_below roster past (length past + 1) l.0 (omega arith)) refl;
           }),
-      λ is. (or_parts (has_completion_of e.completions (length past + 1)) (is_ended past (length past + 1))
+      λ is. (or_parts (completes e.completions (length past + 1)) (is_ended past (length past + 1))
           (tells.0 is).going).0,
     )
 

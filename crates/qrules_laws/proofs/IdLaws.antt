@@ -2,7 +2,7 @@
 use Rattle.qrules_laws.proofs.Common.{AllByRecursion, Answers, Bool, Call, Completion, Effect, Event, Facts, IsRoster}
 use Rattle.qrules_laws.proofs.Common.{List, Member, Trace, [], all_append, all_filter_map, all_more, ap, arith}
 use Rattle.qrules_laws.proofs.Common.{attached_connection, attaches, channel_at, completion_of, completion_to, cond}
-use Rattle.qrules_laws.proofs.Common.{connection_at, count_to, created_channel, creates, detaches, completions_of, eqb}
+use Rattle.qrules_laws.proofs.Common.{connection_at, count_to, creates, detaches, completions_of, eqb}
 use Rattle.qrules_laws.proofs.Common.{false, inl, inr, is_number, length, length-append, member_at, nat_tests, names}
 use Rattle.qrules_laws.proofs.Common.{none-some, one_for, or-true, passes_of, past_follows, refl, row_of, subst, sym}
 use Rattle.qrules_laws.proofs.Common.{threads_of, true, was_done, ℕ, ◌++◌, ◌+◌, ◌∙◌, ◌∷◌, ◌≡◌, ◌≤◌}
@@ -110,13 +110,13 @@ own_id f t c i y e is = grind arith
 ids_given : (f : Facts) (t : ℕ) (c : Call) (X : List Completion) (i : ℕ) → Answers f t c X
     → AllByRecursion (λ x. id_in x.mark ≡ Some i → f.number ≡ i) X
 ids_given f t c X i (inl a) =
-    subst (AllByRecursion (λ x. id_in x.mark ≡ Some i → f.number ≡ i)) (sym a.1)
+    subst (AllByRecursion (λ x. id_in x.mark ≡ Some i → f.number ≡ i)) (sym a.by_row)
     (all_filter_map (λ x. id_in x.mark ≡ Some i → f.number ≡ i) (completion_to f t c) (threads_of f.roster)
     (λ u y is id. elim (completion_of f t c u y is) [
       | inl h ↦ own_id f t c i y h.1 id
       | inr h ↦ absurd (ends_no_id f t c i u y h.1 id)
     ]))
-ids_given f t c X i (inr a) = subst (AllByRecursion (λ x. id_in x.mark ≡ Some i → f.number ≡ i)) (sym a.2) (
+ids_given f t c X i (inr a) = subst (AllByRecursion (λ x. id_in x.mark ≡ Some i → f.number ≡ i)) (sym a.only) (
   (λ id. absurd (none-some i id)),
   tt,
 )
@@ -164,7 +164,8 @@ never_again roster past later after i given l is below id =
 pub destroyed_stays_destroyed : laws.DestroyedStaysDestroyed
 destroyed_stays_destroyed past later h gone roster after r l is = (
   ap (λ t. channel_at roster t h) is
-      ∙ ap (λ b. cond b None (created_channel roster (later ++ past) h))
+      ∙ ap (λ b. cond b None
+      (past_of.accepted_at (λ (e : Event). creates (member_at roster e.thread) e.call) (later ++ past) h))
       (still_done (λ e. is_number e.destroys h) past later gone),
   never_again roster past later after h (mark.Channel h) l is (λ lawful.
       gone_below roster creates (λ f. f.destroys) (λ past t c X a h e. let f = old.facts_of roster past in

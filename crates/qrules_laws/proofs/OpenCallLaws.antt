@@ -7,11 +7,11 @@ use Rattle.qrules_laws.proofs.Common.{made_newest, made_stays, may_wait, none-so
 use Rattle.qrules_laws.proofs.Common.{open_calls_keep_length, open_from, open_on, open_parts, open_receipt, option_map}
 use Rattle.qrules_laws.proofs.Common.{option_map_or, passes_of, past_follows, refl, same_Some, shuts_down, subst, sym}
 use Rattle.qrules_laws.proofs.Common.{true, true≢false, waits_on_open, ℕ, ◌&&◌, ◌+◌, ◌∙◌, ◌∷◌, ◌≡◌, ◌≤◌, Bool, SentItem}
-use Rattle.qrules_laws.proofs.Common.{filter_map, is_among, nat_tests, newest_receiver, option_and_then, or-true}
-use Rattle.qrules_laws.proofs.Common.{wait_for}
+use Rattle.qrules_laws.proofs.Common.{filter_map, is_among, nat_tests, newest_receiver, or-true, wait_on}
 use Rattle.qrules.proofs.Words.Lawful as old
 use Rattle.qrules.proofs.Traces.TraceLaws.Unended.{asks_any, unended_newest}
-use Rattle.qrules.specs.Past.{waiter, is_ended, channel_of}
+use Rattle.qrules.specs.Past.{waiter, is_ended}
+use Rattle.qrules.proofs.Words.Made.{channel_of}
 use Rattle.qrules.proofs.Traces.Past.LiveSends.{over_attached}
 use Rattle.qrules.proofs.Traces.Properties.Waiting.{nothing_for}
 use Rattle.std.specs.Prelude.{find}
@@ -115,7 +115,7 @@ held_is_open_send roster past r l i =
 module _ (f : Facts) (m : SentItem) where
   -- the number of a thread's receive that may take the item
   abbrev waits : ℕ → Option ℕ
-  waits v = option_and_then (wait_for m.channel m.item) (f.open_call v)
+  waits v = wait_on m.channel m.item (f.open_call v)
 
   -- if no thread waits for the item, no open receive may take it
   none_may : (ts : List ℕ) → ((v : ℕ) → is_among ts v ≡ true → waits v ≡ None)

@@ -8,6 +8,8 @@ use Rattle.qrules_laws.proofs.Common.{none-some, not, now, number_received, opti
 use Rattle.qrules_laws.proofs.Common.{pending_items, priority_before, refl, same_Some, staying, subst, sym, takeable}
 use Rattle.qrules_laws.proofs.Common.{takeable_priorities, takeable_rises, true, ℕ, ◌++◌, ◌+◌, ◌∙◌, ◌∷◌, ◌≡◌, ◌≢◌, ◌≤◌}
 use Rattle.qrules_laws.proofs.Common.{filter, items, option_to_list}
+use Rattle.std.specs.Prelude.{Option}
+use Rattle.qrules.proofs.Words.Past.{item_among, items_by_now, priority_of_made}
 use Rattle.std.proofs.lemmas.Bool.{false_from_ne_true}
 use Rattle.std.proofs.lemmas.Bool.Decides.{nat_tests}
 use Rattle.std.proofs.lemmas.List.Elements.{recursion_from_All}
@@ -75,6 +77,10 @@ module _ (roster : List Member) (past : Trace) (e : Event) (h : ℕ) (kind : Kin
       item_in _ roster past i _ at (each_staying P past h (items roster past) as_now) refl stays
       (grind (arith, may)) other
 
+priority_told : (o : Option SentItem) (p : ℕ) → option_map (λ (m : SentItem). m.item.priority) o ≡ Some p
+    → priority_of_made o ≡ p
+priority_told o p e = grind arith
+
 -- if a call may take x and takes y, which comes after x, x is gone
 gone_first : (roster : List Member) (past later : Trace) (e : Event) (h : ℕ) (x y : Item) (z : Completion)
     → IsPending roster past h x → IsPending roster past h y → comes_before x y ≡ true
@@ -99,9 +105,11 @@ gone_first roster past later e h x y z px py before has_x has_y b t =
     let w_priority : w.0.priority ≡ y.priority =
     sym (best-at (λ (v : Item). priority_before roster L e v.number ≡ v.priority) t.request.kind
     (takeable roster L e h) w.0 (takeable_priorities roster L e h) w.1)
-    ∙ ap (priority_before roster L e) w.2 ∙ before_earlier roster e L y.number below ∙ has_y in
+    ∙ ap (priority_before roster L e) w.2 ∙ before_earlier roster e L y.number below
+    ∙ priority_told (item_among (items_by_now L (items roster L)) y.number) y.priority has_y in
     let v = now L px.first in
-    let v_priority : v.priority ≡ x.priority = sym (item_priority roster L x.number _ at) ∙ has_x in
+    let v_priority : v.priority ≡ x.priority = sym (item_priority roster L x.number _ at)
+    ∙ priority_told (item_among (items_by_now L (items roster L)) x.number) x.priority has_x in
     elim (is_gone L x) as (λ d. is_gone L x ≡ d → d ≡ true) [
       | true ↦ λ _. refl
       | false ↦ λ stays.

@@ -1,9 +1,8 @@
 -- Laws of the completions of one event: the threads that get them, the items that they receive, and the
 -- threads that are blocked afterwards.
 use Rattle.std.specs.Prelude.{◌&&◌, ◌+◌, ◌==◌, ◌||◌, ◌∷◌, ◌≡◌, ◌↔◌, if◌then◌else◌}
-use Rattle.qrules.specs.Words.{[], false, is_some, length, list_any, member_at, option_map}
-use Rattle.qrules.specs.Words.{option_map_or, true, AllByRecursion, Bool, Completion, Down, List}
-use Rattle.qrules.specs.Words.{Member, Some}
+use Rattle.qrules.specs.Words.{[], false, is_some, length, list_any, member_at, option_map, option_map_or}
+use Rattle.qrules.specs.Words.{true, AllByRecursion, Bool, Completion, Down, List, Member, Some}
 use Rattle.qrules.specs.Words.mark
 use Rattle.qrules.specs.Trace.{Bytes, CallNo, ChannelId, ConnectionId, Event, ThreadNo, Trace}
 use Rattle.qrules.specs.Facts.{buffer_in, is_blocked, Facts}
@@ -13,7 +12,7 @@ use Rattle.qrules.specs.Lawful.{facts_of}
 use Rattle.qrules.specs.Properties.{connection_of, items, number_received, request_of}
 use Rattle.qrules_laws.specs.Lawful.{InEachNewest}
 use Rattle.qrules_laws.specs.OpenCalls.{waiting_number}
-pub use Rattle.qrules.specs.Trace.{thread_at, AreApart, gets, RiseByThread}
+pub use Rattle.qrules.specs.Trace.{completes, thread_at, AreApart, gets, RiseByThread}
 
 -- P holds for each completion of each event
 abbrev pub OfEachCompletion : (List Member → Trace → Event → Completion → Type 0) → Type 0
@@ -51,18 +50,15 @@ BlockedUnlessEnded = InEachNewest (λ roster past e. is_blocked (facts_of roster
     → (u : ThreadNo) → is_blocked (facts_of roster (e ∷ past)) u
     ≡ (if gets e.completions u then false else may_end (facts_of roster past) e.thread u))
 
--- one of the completions is of the event's own call
-abbrev pub ends_itself : Trace → Event → Bool
-ends_itself past e = list_any (λ x. x.call == length past + 1) e.completions
-
 -- either a call completes in its own event, or its thread is blocked in it afterwards
 abbrev pub EndsOrWaits : Type 0
-EndsOrWaits = InEachNewest (λ roster past e. (ends_itself past e ≡ false)
+EndsOrWaits = InEachNewest (λ roster past e. (completes e.completions (length past + 1) ≡ false)
     ↔ (waiting_number (facts_of roster (e ∷ past)) e.thread ≡ Some (length past + 1)))
 
 -- the caller gets a completion exactly if its call completes in its own event
 abbrev pub CallerGetsItsOwn : Type 0
-CallerGetsItsOwn = InEachNewest (λ roster past e. gets e.completions e.thread ≡ ends_itself past e)
+CallerGetsItsOwn = InEachNewest
+    (λ roster past e. gets e.completions e.thread ≡ completes e.completions (length past + 1))
 
 -- ---- the buffers of completions
 

@@ -2,13 +2,13 @@
 use Rattle.std.specs.Prelude.{◌&&◌, ◌++◌, ◌+◌, ◌∷◌, ◌≡◌, ◌≤◌, if◌then◌else◌}
 use Rattle.qrules.specs.Words.{count_by, false, filter, is_pulse, map, may_take, not, true}
 use Rattle.qrules.specs.Words.{with_priority, AllByRecursion, Bool, Completion, Item, List, Member, None}
-use Rattle.qrules.specs.Words.{option_and_then, unwrap_or, Some, ℕ}
+use Rattle.qrules.specs.Words.{option_and_then, option_map, unwrap_or, Some, ℕ}
 use Rattle.qrules.specs.Words.calls
 use Rattle.qrules.specs.Trace.{CallNo, ChannelId, Event, Priority, ReceiveId, ThreadNo, Trace}
 use Rattle.qrules.specs.Facts.{send_of, OpenSend}
 use Rattle.qrules.specs.Rule.{ReceiveRequest, SentItem}
 use Rattle.qrules.specs.Past.{is_accepted, is_gone, is_number, is_unblock_for, item_among, items_by_now}
-use Rattle.qrules.specs.Past.{priority_of_item, priority_set_by, sender_of}
+use Rattle.qrules.specs.Past.{priority_set_by, sender_of}
 use Rattle.qrules.specs.Lawful.{facts_of, item_made_by}
 use Rattle.qrules.specs.Properties.{items, number_received, request_of}
 use Rattle.qqueue.specs.Contents.{IsRising}
@@ -73,7 +73,8 @@ pub record TakesBeside (past : Trace) (z : Completion) (i : CallNo) (h : Channel
 -- the priority in x is the current priority of the item of its number
 abbrev pub HasPriority : List Member → Trace → Item → Type 0
 HasPriority roster past x =
-    priority_of_item (item_among (items_by_now past (items roster past)) x.number) ≡ x.priority
+    option_map (λ m. m.item.priority) (item_among (items_by_now past (items roster past)) x.number)
+    ≡ Some x.priority
 
 -- let x and y be queued on a channel, let x come before y, and let both still have their priorities. Then no
 -- call that may take x receives y before x is gone.

@@ -35,13 +35,12 @@ pub use Rattle.qrules.proofs.Words.Step.{items_with_priority_set, open_call_afte
 pub use Rattle.qrules.proofs.Words.Step.{pending_after, priority_after, uncancelled_items, unless, unreceived_items}
 pub use Rattle.qrules.specs.Delivery.{deliver, newest_receiver, receipt_completion, refusal_if_full}
 pub use Rattle.qrules.specs.Facts.{OpenReceive, holds, receive_in, receive_of}
-pub use Rattle.qrules.specs.Outcome.{Answers, MayRefuse, Outcome, completion_to, refusal_of}
-pub use Rattle.qrules.specs.Past.{channel_of}
+pub use Rattle.qrules.specs.Outcome.{Answers, refusal_of}
+pub use Rattle.qrules.proofs.Words.Outcome.{MayRefuse, completion_to, Outcome, row_of}
+pub use Rattle.qrules.proofs.Words.Made.{channel_of, pulse_over}
 pub use Rattle.qrules.specs.Rule.{PriorityChange, Transfer}
-pub use Rattle.qrules.specs.Rules.{row_of}
 pub use Rattle.qrules.specs.Rules.Connections.{disconnect_pulse}
 pub use Rattle.qrules.specs.Rules.Held.{answer_row, refusal_unless_held}
-pub use Rattle.qrules.specs.Rules.Pulse.{pulse_over}
 pub use Rattle.qrules.specs.Rules.Unblock.{unblock_pulse}
 pub use Rattle.qtables.specs.Members.{IsRoster, member_at}
 pub use Rattle.qtables.specs.declared.connection.Connection.{Connection}

@@ -11,7 +11,7 @@ use Rattle.qmodel.specs.declared.call.Mark.{Mark}
 use Rattle.qmodel.specs.declared.call.Mark.TheVariants as mark
 use Rattle.qmodel.specs.declared.open_call.Blocked.{Blocked}
 use Rattle.qrules.specs.Facts.{threads_of, waiting_number, Facts}
-use Rattle.qrules.specs.Rules.Threads.{state_of}
+use Rattle.qrules.specs.Records.{state_of}
 use Rattle.qrules.specs.Rule.{buffer_of}
 use Rattle.qrules.specs.Lawful.{facts_of, IsLawful}
 use Rattle.qrules.specs.Trace.{followed_by, Event}

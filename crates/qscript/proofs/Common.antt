@@ -12,15 +12,15 @@ pub use Rattle.qscript_text.proofs.Texts.Digits.{own}
 pub use Rattle.qscript_text.proofs.Texts.Progress.{Stands, calls_more, not_long, not_too_long, roster_more}
 pub use Rattle.qscript_text.proofs.Texts.Progress.{matches_first, matches_last, matches_more}
 pub use Rattle.qscript_text.specs.Reading.Line.{is_text, line_of}
-pub use Rattle.qscript_text.specs.Reading.Words.{is_empty, words_of}
+pub use Rattle.qscript_text.specs.Reading.Words.{words_of}
+pub use Rattle.qscript_text.proofs.Words.{is_empty}
 pub use Rattle.qrules.specs.Lawful.{event_call, facts_of}
 pub use Rattle.qscript.specs.Enrolled.{AllJoin, roster_with}
-pub use Rattle.qscript.specs.Printing.Buffer.{buffer_word, buffer_words}
+pub use Rattle.qscript.specs.Printing.Buffer.{buffer_word}
 pub use Rattle.qscript.specs.Printing.PrintingLaws.{GoesOn, HasLines, IsLines, IsOneLine, completions_in, with_more}
 pub use Rattle.qscript.specs.Printing.PrintingLaws.{with_newline}
 pub use Rattle.qscript.specs.Printing.OpenLine.{open_text}
-pub use Rattle.qscript.specs.Printing.Printed.{call_by, ended_text, event_text, is_shown, printed, shows_buffer}
-pub use Rattle.qscript.specs.Printing.Printed.{texts_from}
+pub use Rattle.qscript.specs.Printing.Printed.{call_by, ended_text, event_text, printed, shows_buffer, texts_from}
 pub use Rattle.qscript.specs.Printing.Printer.{HasPrinted, HasRun, shows_at, shows_own}
 pub use Rattle.qscript.specs.Printing.Words.{words_with_spaces}
 pub use Rattle.qscript.specs.Running.{HasMade}

@@ -11,10 +11,11 @@ use Rattle.qbase.proofs.Lists.{all_append, all_more, length-filter_map}
 use Rattle.qscript_text.specs.declared.reading.line.ScriptLine.{ScriptLine}
 use Rattle.qscript_text.specs.declared.reading.line.ScriptLine.TheVariants as lines
 use Rattle.qscript_text.specs.declared.fault.LineFault.{LineFault}
-use Rattle.qscript_text.specs.Reading.Lines.{lines_of, is_newline, without_return, without_last_end}
+use Rattle.qscript_text.specs.Reading.Lines.{lines_of, is_newline}
+use Rattle.qscript_text.proofs.Words.{without_last_end, without_return, fault_or, fault_in}
 use Rattle.qscript_text.specs.Reading.Meaning.{TooLong, Says, meaning, is_in, line_after_roster, member_in, call_in}
-use Rattle.qscript_text.specs.Reading.Meaning.{roster_of, calls_of, line_behind, line_with, line_after, fault_in}
-use Rattle.qscript_text.specs.Reading.Meaning.{fault_at, first_fault, fault_or}
+use Rattle.qscript_text.specs.Reading.Meaning.{roster_of, calls_of, line_behind, line_with, line_after}
+use Rattle.qscript_text.specs.Reading.Meaning.{fault_at, first_fault}
 use Rattle.qscript_text.proofs.Texts.Early.{bind_ok, placed_keeps, alone}
 use Rattle.qscript.proofs.Joining.{enrolled_more}
 

@@ -15,7 +15,7 @@ use Rattle.qscript_text.specs.declared.fault.LineFault.{LineFault}
 use Rattle.qscript.specs.Enrolled.{roster_with, AllJoin}
 use Rattle.qscript_text.specs.Reading.Meaning.{meaning, Says, Faulty}
 use Rattle.qscript.specs.Printing.Printed.{printed}
-use Rattle.qscript.specs.Transfer.{IsReading, FailsWithin, IsOverfull, StopsWithin}
+use Rattle.qscript.specs.Transfer.{IsReading, StopsWithin}
 
 -- the threads may join one roster, each call is made by one of them, and a kernel can number the calls
 pub record CanRun (roster : List Member) (calls : List (ℕ × Call)) : Type 0 where
@@ -57,14 +57,6 @@ pub record IsRun (reader reader_after writer writer_after : Option (List ℕ)) :
   pub read : IsReading reader reader_after input
   pub runs : Runs input text
   pub written : Appends writer writer_after text
-
--- the reader failed before it gave more bytes than a script may have
-abbrev pub IsUnread : Option (List ℕ) → Option (List ℕ) → Bool → Type 0
-IsUnread reader reader_after faulted = (input : List ℕ) × FailsWithin reader reader_after faulted input
-
--- the reader gave more bytes than a script may have before it failed
-abbrev pub IsTooLong : Option (List ℕ) → Option (List ℕ) → Bool → Type 0
-IsTooLong reader reader_after faulted = (input : List ℕ) × IsOverfull reader reader_after faulted input
 
 -- all of the input was read, and this is the fault of the script
 pub record IsFaulty (reader reader_after : Option (List ℕ)) (n : ℕ) (f : LineFault) : Type 0 where

@@ -11,22 +11,24 @@ pub record IsReading (before after : Option (List ℕ)) (bytes : List ℕ) : Typ
   pub ended : IsAtEnd after
   pub short : length bytes ≤ most_text
 
--- a reader gave these bytes, at most as many as a script may have, and then failed
-pub record FailsWithin (before after : Option (List ℕ)) (faulted : Bool) (bytes : List ℕ) : Type 0 where
+-- a reader gave some bytes, at most as many as a script may have, and then failed
+pub record FailsWithin (before after : Option (List ℕ)) (faulted : Bool) : Type 0 where
+  pub bytes : List ℕ
   pub given : Consumes before after bytes
   pub short : length bytes ≤ most_text
   pub fault : faulted ≡ true
 
 -- a reader gave more bytes than a script may have, and hadn't failed
-pub record IsOverfull (before after : Option (List ℕ)) (faulted : Bool) (bytes : List ℕ) : Type 0 where
+pub record IsOverfull (before after : Option (List ℕ)) (faulted : Bool) : Type 0 where
+  pub bytes : List ℕ
   pub given : Consumes before after bytes
   pub long : most_text < length bytes
   pub no_fault : faulted ≡ false
 
 -- the reason why reading stopped before the end
 abbrev pub IsReadFault : ScriptFault → Option (List ℕ) → Option (List ℕ) → Bool → Type 0
-IsReadFault faults.Read before after faulted = (bytes : List ℕ) × FailsWithin before after faulted bytes
-IsReadFault faults.TooLong before after faulted = (bytes : List ℕ) × IsOverfull before after faulted bytes
+IsReadFault faults.Read before after faulted = FailsWithin before after faulted
+IsReadFault faults.TooLong before after faulted = IsOverfull before after faulted
 IsReadFault faults.NoMemory before after faulted = Unit {0}
 IsReadFault (faults.Line n f) before after faulted = ⊥
 IsReadFault faults.Write before after faulted = ⊥

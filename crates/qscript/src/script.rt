@@ -6,8 +6,8 @@ ghost use Rattle.qkernel.specs.Run.{AllKnown};
 ghost use Rattle.qkernel_state.specs.Contents.{members_of};
 ghost use Rattle.qscript.specs.Running.{HasMade};
 ghost use Rattle.qscript.specs.Enrolled.{roster_with, AllJoin};
-ghost use Rattle.qscript.specs.Script.{CanRun, IsTextOfRun, IsRun, IsUnread, IsTooLong, IsFaulty, IsCut};
-ghost use Rattle.qscript.specs.Watched.{inner_of, has_faulted};
+ghost use Rattle.qscript.specs.Script.{CanRun, IsTextOfRun, IsRun, IsFaulty, IsCut};
+ghost use Rattle.qscript.specs.Transfer.{FailsWithin, IsOverfull};
 ghost use Rattle.qscript_text.specs.declared.fault.LineFault.{LineFault};
 
 use crate::run::Run;
@@ -71,23 +71,23 @@ pub fn script<R: Read, W: Write>(
     reader: &mut Watched<R>,
     writer: &mut Watched<W>,
 ) -> Result<(), ScriptFault>
-    requires reader { has_faulted reader.old ≡ false }
-    requires writer { has_faulted writer.old ≡ false }
-    ensures ok { OnOk result (IsRun (R.remaining (inner_of reader.old)) (R.remaining (inner_of reader.new))
-        (W.contents (inner_of writer.old)) (W.contents (inner_of writer.new))) }
+    requires reader { reader.old.faulted ≡ false }
+    requires writer { writer.old.faulted ≡ false }
+    ensures ok { OnOk result (IsRun (R.remaining reader.old.inner) (R.remaining reader.new.inner)
+        (W.contents writer.old.inner) (W.contents writer.new.inner)) }
     ensures read { IsErrOf result ScriptFault.Read →
-        IsUnread (R.remaining (inner_of reader.old)) (R.remaining (inner_of reader.new))
-        (has_faulted reader.new) × (writer.new ≡ writer.old) }
+        FailsWithin (R.remaining reader.old.inner) (R.remaining reader.new.inner)
+        reader.new.faulted × (writer.new ≡ writer.old) }
     ensures too_long { IsErrOf result ScriptFault.TooLong →
-        IsTooLong (R.remaining (inner_of reader.old)) (R.remaining (inner_of reader.new))
-        (has_faulted reader.new) × (writer.new ≡ writer.old) }
+        IsOverfull (R.remaining reader.old.inner) (R.remaining reader.new.inner)
+        reader.new.faulted × (writer.new ≡ writer.old) }
     ensures line { (n : ℕ) (f : LineFault) → IsErrOf result (ScriptFault.Line n f) →
-        IsFaulty (R.remaining (inner_of reader.old)) (R.remaining (inner_of reader.new)) n f
+        IsFaulty (R.remaining reader.old.inner) (R.remaining reader.new.inner) n f
         × (writer.new ≡ writer.old) }
     ensures memory { IsErrOf result ScriptFault.NoMemory → writer.new ≡ writer.old }
     ensures write { IsErrOf result ScriptFault.Write →
-        IsCut (R.remaining (inner_of reader.old)) (R.remaining (inner_of reader.new))
-        (W.contents (inner_of writer.old)) (W.contents (inner_of writer.new)) (has_faulted writer.new) }
+        IsCut (R.remaining reader.old.inner) (R.remaining reader.new.inner)
+        (W.contents writer.old.inner) (W.contents writer.new.inner) writer.new.faulted }
 {
     let text = read_all(alloc, reader)?;
     let script = parse(alloc, text.as_slice())?;

@@ -3,7 +3,7 @@
 ghost use Rattle.std.specs.Prelude.{◌≡◌, ◌||◌, is_err, false};
 ghost use Rattle.std.specs.Io.{ReadsAtMost, WritesAtMost};
 ghost use Rattle.std.specs.Io.KnownBytes.{ReadConsumes, WriteAppends, Keeps};
-ghost use Rattle.qscript.specs.Watched.{inner_of, has_faulted, fails_to_write};
+ghost use Rattle.qscript.specs.Watched.{fails_to_write};
 
 use std::io;
 use std::io::{Read, Write};
@@ -20,8 +20,8 @@ pub struct Watched<T> {
 impl<T> Watched<T> {
     /// Wraps a reader or a writer that hasn't failed.
     pub fn new(inner: T) -> Self
-        ensures inner { inner_of result ≡ inner }
-        ensures faulted { has_faulted result ≡ false }
+        ensures inner { result.inner ≡ inner }
+        ensures faulted { result.faulted ≡ false }
     {
         Watched {
             inner,
@@ -31,27 +31,27 @@ impl<T> Watched<T> {
 
     /// Returns whether one of its reads or writes has failed so far. A later success doesn't clear this.
     pub fn faulted(&self) -> bool
-        ensures { result ≡ has_faulted self.now }
+        ensures { result ≡ self.now.faulted }
     {
         self.faulted
     }
 
     /// Returns the inner reader or writer.
     pub fn into_inner(self) -> T
-        ensures { result ≡ inner_of self }
+        ensures { result ≡ self.inner }
     {
         self.inner
     }
 }
 
 impl<R: Read> Read for Watched<R> {
-    ghost remaining = { λ w. R.remaining (inner_of w) };
+    ghost remaining = { λ w. R.remaining w.inner };
 
     fn read(&mut self, buf: &mut [u8]) -> io::Result<usize>
         ensures bound { ReadsAtMost result buf.new }
-        ensures bytes { ReadConsumes (R.remaining (inner_of self.old))
-            (R.remaining (inner_of self.new)) result buf.new }
-        ensures faulted { has_faulted self.new ≡ (has_faulted self.old || is_err result) }
+        ensures bytes { ReadConsumes (R.remaining self.old.inner)
+            (R.remaining self.new.inner) result buf.new }
+        ensures faulted { self.new.faulted ≡ (self.old.faulted || is_err result) }
     {
         let result = self.inner.read(buf);
         if result.is_err() {
@@ -62,13 +62,13 @@ impl<R: Read> Read for Watched<R> {
 }
 
 impl<W: Write> Write for Watched<W> {
-    ghost contents = { λ w. W.contents (inner_of w) };
+    ghost contents = { λ w. W.contents w.inner };
 
     fn write(&mut self, buf: &[u8]) -> io::Result<usize>
         ensures bound { WritesAtMost result buf.now }
-        ensures bytes { WriteAppends (W.contents (inner_of self.old))
-            (W.contents (inner_of self.new)) result buf.now }
-        ensures faulted { has_faulted self.new ≡ (has_faulted self.old || fails_to_write result buf.now) }
+        ensures bytes { WriteAppends (W.contents self.old.inner)
+            (W.contents self.new.inner) result buf.now }
+        ensures faulted { self.new.faulted ≡ (self.old.faulted || fails_to_write result buf.now) }
     {
         let result = self.inner.write(buf);
         match &result {
@@ -81,8 +81,8 @@ impl<W: Write> Write for Watched<W> {
     }
 
     fn flush(&mut self) -> io::Result<()>
-        ensures bytes { Keeps (W.contents (inner_of self.old)) (W.contents (inner_of self.new)) }
-        ensures faulted { has_faulted self.new ≡ has_faulted self.old }
+        ensures bytes { Keeps (W.contents self.old.inner) (W.contents self.new.inner) }
+        ensures faulted { self.new.faulted ≡ self.old.faulted }
     {
         self.inner.flush()
     }

@@ -7,8 +7,9 @@ use Rattle.qmodel.specs.declared.call.Call.{Call}
 use Rattle.qscript_text.specs.declared.fault.LineFault.{LineFault}
 use Rattle.qscript_text.specs.TextLimit.{most_text}
 use Rattle.qscript_text.specs.Reading.TextLaws.{IsOneLine}
-use Rattle.qscript_text.specs.Reading.Meaning.{Meaning, TooLong, Faulty, Says, meaning, of_lines, fault_or, first_fault}
-use Rattle.qscript_text.specs.Reading.Meaning.{roster_of, calls_of}
+use Rattle.qscript_text.specs.Reading.Meaning.{Meaning, TooLong, Faulty, Says, meaning, first_fault, roster_of}
+use Rattle.qscript_text.specs.Reading.Meaning.{calls_of}
+use Rattle.qscript_text.proofs.Words.{fault_or, of_lines}
 use Rattle.qscript_text.proofs.Texts.Lines.{lines_at, lines_none}
 
 -- lines with line ends are read back as these lines

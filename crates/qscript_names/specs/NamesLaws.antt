@@ -4,7 +4,7 @@ use Rattle.std.specs.List.{AllByRecursion}
 use Rattle.qtables.specs.declared.member.Member.{Member}
 use Rattle.qmodel.specs.declared.call.Call.{Call}
 use Rattle.qscript_text.specs.Reading.TextLaws.{IsOneLine}
-use Rattle.qscript_text.specs.Reading.Lines.{without_return}
+use Rattle.qscript_text.specs.Reading.Lines.{without_last}
 use Rattle.qscript_text.specs.Reading.Meaning.{Says, meaning, roster_of, calls_of}
 use Rattle.qscript_names.specs.declared.line.NamedLine.{NamedLine}
 use Rattle.qscript_names.specs.Names.{none}
@@ -16,5 +16,5 @@ abbrev pub CallsAreReplaced : Type 0
 CallsAreReplaced = (all : List NamedLine) (roster : List Member) (calls : List (ℕ × Call))
     → AllByRecursion IsOneLine (plain_lines none all)
     → meaning (plain_text none all) ≡ Says roster calls
-    → (roster ≡ roster_of (map without_return (plain_lines none all)))
-    × (calls ≡ calls_of (map without_return (plain_lines none all)))
+    → (roster ≡ roster_of (map (without_last 13) (plain_lines none all)))
+    × (calls ≡ calls_of (map (without_last 13) (plain_lines none all)))

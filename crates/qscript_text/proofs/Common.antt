@@ -3,10 +3,10 @@ pub use Rattle.qmodel.specs.declared.call.Call.{Call}
 pub use Rattle.qscript_text.specs.Reading.Forms.{no_values, values_of}
 pub use Rattle.qscript_text.specs.Reading.TextLaws.{IsOneLine, IsPassedOver, IsWhole, is_passed_over}
 pub use Rattle.qscript_text.specs.Reading.TextLaws.{meaning_one_line_later}
-pub use Rattle.qscript_text.specs.Reading.Lines.{is_newline, lines_of, without_last_end, without_return}
-pub use Rattle.qscript_text.specs.Reading.Meaning.{of_lines}
+pub use Rattle.qscript_text.specs.Reading.Lines.{is_newline, lines_of}
+pub use Rattle.qscript_text.proofs.Words.{without_last_end, without_return, of_lines, is_empty}
 pub use Rattle.qscript_text.specs.Reading.Steps.{Fails, ◌>>=◌}
-pub use Rattle.qscript_text.specs.Reading.Words.{is_empty, words_of}
+pub use Rattle.qscript_text.specs.Reading.Words.{words_of}
 pub use Rattle.qscript_text.specs.declared.fault.LineFault.{LineFault}
 pub use Rattle.qscript_text.specs.declared.fault.LineFault.TheVariants.{BadByte, DoubleThread, LongLine, TooManyThreads}
 pub use Rattle.qscript_text.specs.declared.fault.LineFault.TheVariants.{UnknownThread, WordCount}

@@ -1,3 +1,4 @@
 pub mod Common
+pub mod Words
 pub mod Texts
 pub mod Operands

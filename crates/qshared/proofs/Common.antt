@@ -34,7 +34,7 @@ pub use Rattle.qshared.specs.Asking.{AreCallsOf, IsSince, WaitedBefore, asked_in
 pub use Rattle.qshared.specs.Counting.{gives, is_call, pends}
 pub use Rattle.qshared.specs.Due.{AreDue, AreKnown, AreLater, HasWaited, IsOwed, at_once, collected, completions_due}
 pub use Rattle.qshared.specs.Due.{ends_open, in_turn, later_due, later_of, of_thread, place, waits}
-pub use Rattle.qshared.specs.Past.{AreSeen, RiseByThread, has_completion_of, is_down}
+pub use Rattle.qshared.specs.Past.{AreSeen, RiseByThread, completes, is_down}
 pub use Rattle.qshared.specs.Performing.{Admits, IsEvent, IsFree, IsReason, IsServed, Performs, Refuses, outcome}
 pub use Rattle.qshared.specs.Private.Putting.{Handed, MayPut}
 pub use Rattle.qshared.specs.Private.Recorded.{Copied, HasRoomFor, HasRooms, IsKept, MayCopy}

@@ -5,7 +5,7 @@ use Rattle.qshared.proofs.Common.{eqb-true, same_Some, all_more, length-map, Bus
 use Rattle.qshared.proofs.Common.{AreApart, gets, thread_at, with_event, among_member, caller_gets_its_own}
 use Rattle.qshared.proofs.Common.{completions_are_apart, is_blocked, Answers, AnswersAtTraces, State, KernelView, line}
 use Rattle.qshared.proofs.Common.{opened_kernel_view, cancelled_kernel_view, IsBusy, one, HasWaited, at_once, later_due}
-use Rattle.qshared.proofs.Common.{of_thread, place, has_completion_of, is_down, IsUnderLock, Admits, IsFree, IsServed}
+use Rattle.qshared.proofs.Common.{of_thread, place, completes, is_down, IsUnderLock, Admits, IsFree, IsServed}
 use Rattle.qshared.proofs.Common.{IsReason, IsEvent, Performs, Refuses, outcome, MayPut, Handed, matches_down}
 use Rattle.qrules.proofs.Words.Facts.{threads_of}
 use Rattle.qmodel.specs.Trace.{Trace}
@@ -110,7 +110,7 @@ module _ (roster : List Member) (slots : ℕ) (kernel : State) (d : KernelView C
               (outcome own) (record { kernel = new; kernel_view = d'; past = with_event t c X past })
           performs refuses admits d' admitted own is =
               let lawful = (lawful_after roster kernel d past t i h.told at near free c X answers h.rises) in
-              let ends : gets X t ≡ has_completion_of X (length past + 1) =
+              let ends : gets X t ≡ completes X (length past + 1) =
               caller_gets_its_own roster past (record { thread = t; call = c; completions = X }) h.rises lawful in
               let names =
               completions_name_own_calls roster past (record { thread = t; call = c; completions = X }) h.rises

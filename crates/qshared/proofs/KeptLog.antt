@@ -67,8 +67,8 @@ old_shutdown_down : (roster : List Member) (past : Trace) (t : ℕ) (X : List Co
     → old_past.is_down (with_event t Shutdown X past) ≡ true
 old_shutdown_down roster past t X up idle a = elim a [
   | inl a ↦ rw (accepted roster past t Shutdown X a) refl
-  | inr a ↦ absurd (elim (a.1) [
-    | inl is ↦ none-some a.0 (sym none ∙ is)
+  | inr a ↦ absurd (elim (a.cause) [
+    | inl is ↦ none-some a.error (sym none ∙ is)
     | inr m ↦ true≢false (sym m.1)
   ])
 ] where

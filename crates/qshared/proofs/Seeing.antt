@@ -5,7 +5,8 @@ use Rattle.qshared.proofs.Common.{Extends, AreSeen}
 use Rattle.std.proofs.lemmas.List.Sums.{sum_by-append}
 use Rattle.std.proofs.lemmas.List.{append_assoc, reverse-append, reverse-reverse}
 use Rattle.qmodel.specs.Trace.{Event, Trace}
-use Rattle.qshared.specs.HistoryLaws.{event_at, InRealTime, IsBeginning}
+use Rattle.qshared.specs.HistoryLaws.{InRealTime, IsBeginning}
+use Rattle.qrules.specs.Trace.{event_at}
 use Rattle.qshared.proofs.Rows.{each_pushed, map_snoc}
 
 pub on : (a b c : Trace) → Extends c b → Extends b a → Extends c a

@@ -1,13 +1,12 @@
 -- Laws that follow from the rule of the cells and their tie to the history.
-use Rattle.std.specs.Prelude.{◌≡◌, ℕ, ◌+◌, ◌<◌, ◌≤◌, ◌==◌, List, [], ◌∷◌, ◌++◌, length, take}
-use Rattle.std.specs.Prelude.{Option, Some, None, if◌then◌else◌}
+use Rattle.std.specs.Prelude.{◌≡◌, ℕ, ◌+◌, ◌<◌, ◌≤◌, List, [], ◌∷◌, ◌++◌, length, take, Option, Some}
 use mathlib.Core.Option.{some}
 use lib.ListN.{get_elem?}
 use Rattle.atomic_table.specs.Table.{State}
 use Rattle.qtables.specs.declared.member.Member.{Member}
 use Rattle.qmodel.specs.declared.call.Completion.{Completion}
 use Rattle.qrules.specs.Facts.{threads_of}
-use Rattle.qrules.specs.Trace.{CallNo, Event, followed_by, Trace}
+use Rattle.qrules.specs.Trace.{event_at, Event, followed_by, Trace}
 use Rattle.qshared.specs.History.{Extends}
 use Rattle.qhandoff.specs.declared.view.KernelView.{KernelView}
 use Rattle.qhandoff.specs.declared.view.ThreadView.{ThreadView}
@@ -25,11 +24,6 @@ TakenIsDue = (n : ℕ) (s : State (Option Completion) (View Completion)) (d : Ke
     → h.thread < n
     → IsTied roster d past → place (threads_of roster) t ≡ Some h.thread
     → (rest : List Completion) × (later_due past t ≡ h.taken ++ rest) × (length rest ≤ 1)
-
--- the event of number i
-abbrev pub event_at : Trace → CallNo → Option Event
-event_at [] i = None
-event_at (e ∷ past) i = if i == length past + 1 then Some e else event_at past i
 
 -- a port that saw the history after an event, or learned of it from another port, meets only histories that
 -- have this event at the same number

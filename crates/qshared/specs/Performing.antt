@@ -1,6 +1,6 @@
 -- The outcome of a call that was made under the lock.
-use Rattle.std.specs.Prelude.{◌≡◌, ◌⊎◌, ℕ, ◌+◌, true, false, is_some, List, [], ◌∷◌, length}
-use Rattle.std.specs.Prelude.{Option, None, Some}
+use Rattle.std.specs.Prelude.{◌≡◌, ◌⊎◌, ℕ, ◌+◌, true, false, is_some, List, [], ◌∷◌, length, Option, None}
+use Rattle.std.specs.Prelude.{Some}
 use Rattle.qbase.specs.declared.errno.Errno.{Errno}
 use Rattle.qbase.specs.declared.errno.Errno.TheVariants.{NoThread, Down, Busy}
 use Rattle.qtables.specs.Members.{member_at}
@@ -12,7 +12,7 @@ use Rattle.qrules.specs.Lawful.{facts_of}
 use Rattle.qrules.specs.Outcome.{Answers}
 use Rattle.qrules.specs.Trace.{Trace}
 use Rattle.qshared.specs.Due.{completions_due, of_thread}
-use Rattle.qshared.specs.Past.{has_completion_of, is_down}
+use Rattle.qshared.specs.Past.{completes, is_down}
 use Rattle.qshared.specs.declared.port.Called.{Called}
 use Rattle.qshared.specs.UnderLock.{UnderLock}
 use Rattle.qshared.specs.declared.port.Called.TheVariants.{Done, Blocked, Refused}
@@ -65,7 +65,7 @@ pub record IsOwn (t i : ℕ) (completions : List Completion) (x : Completion) : 
 -- none of these completions is for thread t, and none belongs to the call of number i
 pub record IsOpen (t i : ℕ) (completions : List Completion) : Type 0 where
   pub none : of_thread t completions ≡ []
-  pub unended : has_completion_of completions i ≡ false
+  pub unended : completes completions i ≡ false
 
 -- the outcome of an event, given the caller's own completion, if there is one
 abbrev pub outcome : Option Completion → Called

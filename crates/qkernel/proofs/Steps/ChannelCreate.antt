@@ -86,13 +86,13 @@ module _ (s : State) (t : ℕ) (flags : ChannelFlags) (m : Member) (q : Contents
   step_created X known up free is_known room is = (
     true,
     record {
-      answer = (
-        rw (up, free, is_known, room) refl,
-        is ∙ sym
+      answer = record {
+        no_refusal = rw (up, free, is_known, room) refl;
+        by_row = is ∙ sym
             (only_own _ t
             (Some (record { call = s.made + 1; thread = t; mark = mark.Channel (s.made + 1); buffer = [] }))
-            (rises (members_of s.threads) sound.roster) (among (members_of s.threads) t m known)),
-      );
+            (rises (members_of s.threads) sound.roster) (among (members_of s.threads) t m known));
+      };
       follows = record {
         roster = refl;
         number = refl;

@@ -24,7 +24,7 @@ module _ (s : State) (t chid : ℕ) (m : Member) (known : member_at (members_of 
         let as_many : length cancel ≡ length s.channels = count_same s.channels cancel lose.ids in (
           true,
           record {
-            answer = (rw (up, free, owned) refl, is);
+            answer = record { no_refusal = rw (up, free, owned) refl; by_row = is };
             follows = record {
               roster = are.members;
               number = refl;

@@ -47,7 +47,7 @@ pub step_refused : (s : State) (t : ℕ) (c : Call) (e : Errno) (X : List Comple
 step_refused s t c e X new may is counted = (
   false,
   record {
-    answer = (e, may, is);
+    answer = record { error = e; cause = may; only = is };
     follows = record {
       roster = ap members_of counted.threads;
       number = ap (λ n. n + 1) counted.made;

@@ -46,13 +46,13 @@ module _ (s : State) (t chid : ℕ) (m : Member) (sound : IsSound s) where
   step_attached X known up free opens room is = (
     true,
     record {
-      answer = (
-        rw (up, free, opens, room) refl,
-        is ∙ sym
+      answer = record {
+        no_refusal = rw (up, free, opens, room) refl;
+        by_row = is ∙ sym
             (only_own _ t
             (Some (record { call = s.made + 1; thread = t; mark = mark.Connection (s.made + 1); buffer = [] }))
-            (rises (members_of s.threads) sound.roster) (among (members_of s.threads) t m known)),
-      );
+            (rises (members_of s.threads) sound.roster) (among (members_of s.threads) t m known));
+      };
       follows = record {
         roster = refl;
         number = refl;

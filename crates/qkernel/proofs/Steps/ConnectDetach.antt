@@ -318,13 +318,13 @@ module _ (s : State) (t coid : ℕ) (m : Member) (known : member_at (members_of 
           step_detached X fewer is_X = (
             true,
             record {
-              answer = (
-                rw (up, free, own, due_is) is.room,
-                is_X ∙ ap (λ ms. with_completion_if met (filter_map g (threads_of ms))) is.members
+              answer = record {
+                no_refusal = rw (up, free, own, due_is) is.room;
+                by_row = is_X ∙ ap (λ ms. with_completion_if met (filter_map g (threads_of ms))) is.members
                     ∙ is.completions g g_own g_none
                     ∙ filter_map_same (λ u. option_or (g u) (ends_receiver (facts_in s) o u))
-                    (completion_to (facts_in s) t (ConnectDetach coid)) ts completion_is,
-              );
+                    (completion_to (facts_in s) t (ConnectDetach coid)) ts completion_is;
+              };
               follows = record {
                 roster = are.members ∙ is.members;
                 number = refl;

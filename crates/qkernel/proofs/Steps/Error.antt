@@ -18,12 +18,12 @@ pub step_errored : (s : State) (t : ℕ) (m : Member) (i : ℕ) (sound : IsSound
 step_errored s t m i sound known code u y up free held is_sender ended threads X takes is = (
   true,
   record {
-    answer = (
-      rw (up, free, is_held s t m i sound known, held) refl,
-      two_ended s t m i sound known
+    answer = record {
+      no_refusal = rw (up, free, is_held s t m i sound known, held) refl;
+      by_row = two_ended s t m i sound known
           (error_finish code) u y up free is_sender ended (Error i code) refl
-          (λ v. answer_same (facts_in s) (error_finish code) (sender (facts_in s) i) v) X is,
-    );
+          (λ v. answer_same (facts_in s) (error_finish code) (sender (facts_in s) i) v) X is;
+    };
     follows = record {
       roster = takes.members;
       number = refl;

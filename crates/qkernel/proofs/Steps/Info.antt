@@ -57,13 +57,13 @@ module _ (s : State) (t : ℕ) (m : Member) (i : ℕ) (sound : IsSound s)
   step_info told_so X says is = (
     true,
     record {
-      answer = (
-        rw (up, free, is_held s t m i sound known, held) refl,
-        is ∙ sym (only_own _ t (Some (info_completion (s.made + 1) t told_so))
+      answer = record {
+        no_refusal = rw (up, free, is_held s t m i sound known, held) refl;
+        by_row = is ∙ sym (only_own _ t (Some (info_completion (s.made + 1) t told_so))
             (rises (members_of s.threads) sound.roster) (among (members_of s.threads) t m known))
             ∙ ap (λ o. filter_map (λ u. cond (eqb u t) (option_map (info_completion (s.made + 1) t) o) None)
-            (threads_of (members_of s.threads))) (sym says),
-      );
+            (threads_of (members_of s.threads))) (sym says);
+      };
       follows = record {
         roster = refl;
         number = refl;

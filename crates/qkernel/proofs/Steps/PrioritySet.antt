@@ -27,11 +27,11 @@ module _ (s : State) (t thread priority : ℕ) (m : Member) (known : member_at (
   step_set threads channels X sound own moves sets is = (
     true,
     record {
-      answer = (
-        rw (up, free, known, own) refl,
-        is ∙ sym (only_own _ t (Some mine) (rises (members_of s.threads) sound.roster)
-            (among (members_of s.threads) t m known)),
-      );
+      answer = record {
+        no_refusal = rw (up, free, known, own) refl;
+        by_row = is ∙ sym (only_own _ t (Some mine) (rises (members_of s.threads) sound.roster)
+            (among (members_of s.threads) t m known));
+      };
       follows = record {
         roster = sets.members;
         number = refl;

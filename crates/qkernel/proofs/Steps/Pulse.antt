@@ -1,5 +1,5 @@
 -- Pulse as a step of the kernel.
-use Rattle.qrules.specs.Rules.Pulse.{pulse_over}
+use Rattle.qrules.proofs.Words.Made.{pulse_over}
 use Rattle.qkernel.proofs.Common.{pulse_same, ◌≡◌, ℕ, ◌+◌, List, [], ◌∷◌, refl, ap, ◌∙◌, true, false, inl, inr, ℤ}
 use Rattle.qkernel.proofs.Common.{int_lt, pos, None, Some, Pulse, refusal_completion, pulse_item, ends_receiver}
 use Rattle.qkernel.proofs.Common.{pulse_receipt, refusal_if_full, has_to_wait, newest_receiver, Again, Badf, Inval}

@@ -21,12 +21,12 @@ module _ (s : State) (t : ℕ) (m : Member) (i : ℕ) (sound : IsSound s)
   step_read offset buffer X is = (
     true,
     record {
-      answer = (
-        rw (up, free, is_held s t m i sound known, held) refl,
-        is
+      answer = record {
+        no_refusal = rw (up, free, is_held s t m i sound known, held) refl;
+        by_row = is
             ∙ rw (← message_same (facts_in s) i)
-            (sym (only_own _ t _ (rises (members_of s.threads) sound.roster) (among (members_of s.threads) t m known))),
-      );
+            (sym (only_own _ t _ (rises (members_of s.threads) sound.roster) (among (members_of s.threads) t m known)));
+      };
       follows = record {
         roster = refl;
         number = refl;

@@ -81,12 +81,12 @@ step_of : (s : State) (t chid : ℕ) (kind : Kind) (buffer : List ℕ) (m : Memb
 step_of s t chid Any buffer m o X threads channels none known up free owned best r = (
   true,
   record {
-    answer = (
-      rw (up, free, owned) refl,
-      r.completions
+    answer = record {
+      no_refusal = rw (up, free, owned) refl;
+      by_row = r.completions
           ∙ sym (filter_map_same (completion_to (facts_in s) t (Receive chid buffer))
-          (λ u. cond (eqb u t) (own_of s t buffer o) None) (threads_of (members_of s.threads)) (λ u. rw best refl)),
-    );
+          (λ u. cond (eqb u t) (own_of s t buffer o) None) (threads_of (members_of s.threads)) (λ u. rw best refl));
+    };
     follows = record {
       roster = r.roster;
       number = refl;
@@ -109,12 +109,12 @@ step_of s t chid PulseOnly buffer m o X threads channels none known up free owne
       subst (λ b. Receives s t chid PulseOnly b o X threads channels) empty r in (
         true,
         record {
-          answer = (
-            rw (up, free, owned) refl,
-            q.completions
+          answer = record {
+            no_refusal = rw (up, free, owned) refl;
+            by_row = q.completions
                 ∙ sym (filter_map_same (completion_to (facts_in s) t (ReceivePulse chid))
-                (λ u. cond (eqb u t) (own_of s t [] o) None) (threads_of (members_of s.threads)) (λ u. rw best refl)),
-          );
+                (λ u. cond (eqb u t) (own_of s t [] o) None) (threads_of (members_of s.threads)) (λ u. rw best refl));
+          };
           follows = record {
             roster = q.roster;
             number = refl;

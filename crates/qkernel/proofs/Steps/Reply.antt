@@ -18,12 +18,12 @@ pub step_replied : (s : State) (t : ℕ) (m : Member) (i : ℕ) (sound : IsSound
 step_replied s t m i sound known status bytes u y up free held is_sender ended threads X takes is = (
   true,
   record {
-    answer = (
-      rw (up, free, is_held s t m i sound known, held) refl,
-      two_ended s t m i sound known
+    answer = record {
+      no_refusal = rw (up, free, is_held s t m i sound known, held) refl;
+      by_row = two_ended s t m i sound known
           (reply_finish status bytes) u y up free is_sender ended (Reply i status bytes) refl
-          (λ v. answer_same (facts_in s) (reply_finish status bytes) (sender (facts_in s) i) v) X is,
-    );
+          (λ v. answer_same (facts_in s) (reply_finish status bytes) (sender (facts_in s) i) v) X is;
+    };
     follows = record {
       roster = takes.members;
       number = refl;

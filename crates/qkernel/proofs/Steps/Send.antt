@@ -79,13 +79,13 @@ module _ (s : State) (t coid : ℕ) (message reply_buffer : List ℕ) (m : Membe
       let none : newest_receiver (facts_in s) h item ≡ None = nobody in (
         true,
         record {
-          answer = (
-            rw (up, free, over_way) refl,
-            is ∙ sym
+          answer = record {
+            no_refusal = rw (up, free, over_way) refl;
+            by_row = is ∙ sym
                 (nothing (threads_of (members_of s.threads))
                 (completion_to (facts_in s) t (Send coid message reply_buffer))
-                (λ u. rw (over_sent, none) (cond_same (eqb u t) None))),
-          );
+                (λ u. rw (over_sent, none) (cond_same (eqb u t) None)));
+          };
           follows = record {
             roster = opens.members;
             number = refl;
@@ -176,9 +176,9 @@ module _ (s : State) (t coid : ℕ) (message reply_buffer : List ℕ) (m : Membe
     step_send_met threads_1 threads_2 X takes_r sets_t is = (
       true,
       record {
-        answer = (
-          rw (up, free, over_way) refl,
-          is ∙ sym (filter_map_same (completion_to (facts_in s) t (Send coid message reply_buffer))
+        answer = record {
+          no_refusal = rw (up, free, over_way) refl;
+          by_row = is ∙ sym (filter_map_same (completion_to (facts_in s) t (Send coid message reply_buffer))
               (λ u. cond (eqb u r) (Some y) None) (threads_of (members_of s.threads)) (λ u. rw (others_is u) (
               elim (eqb u t) as (λ b. eqb u t ≡ b
               → cond b None (cond (eqb u r) (takes item message u (open_in s.threads u)) None) ≡ cond (eqb u r)
@@ -192,8 +192,8 @@ module _ (s : State) (t coid : ℕ) (message reply_buffer : List ℕ) (m : Membe
                       | false ↦ λ f. refl
                     ] refl
               ] refl)) ∙ only_own (threads_of (members_of s.threads)) r (Some y)
-              (rises (members_of s.threads) sound.roster) there),
-        );
+              (rises (members_of s.threads) sound.roster) there);
+        };
         follows = record {
           roster = sets_t.members ∙ takes_r.members;
           number = refl;

@@ -15,7 +15,7 @@ pub step_shut : (s : State) (t : ℕ) (m : Member) (threads : List Thread) (chan
 step_shut s t m threads channels X known up free are lose is = (
   true,
   record {
-    answer = (rw (up, free) refl, is);
+    answer = record { no_refusal = rw (up, free) refl; by_row = is };
     follows = record {
       roster = are.members;
       number = refl;

@@ -29,11 +29,11 @@ module _ (s : State) (t target : ℕ) (m : Member) (known : member_at (members_o
   step_state X sound there is = (
     true,
     record {
-      answer = (
-        rw (up, free, there) refl,
-        is ∙ sym (only_own _ t (Some telling) (rises (members_of s.threads) sound.roster)
-            (among (members_of s.threads) t m known)),
-      );
+      answer = record {
+        no_refusal = rw (up, free, there) refl;
+        by_row = is ∙ sym (only_own _ t (Some telling) (rises (members_of s.threads) sound.roster)
+            (among (members_of s.threads) t m known));
+      };
       follows = record {
         roster = refl;
         number = refl;

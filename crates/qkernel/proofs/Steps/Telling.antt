@@ -93,15 +93,15 @@ module _ (s : State) (t : ℕ) (c : Call) (m : Member) (o : Option SentItem) (so
       let q = tells.quiet in (
         true,
         record {
-          answer = (
-            tells.passed,
-            is_X ∙ ap (with_completion_if met)
+          answer = record {
+            no_refusal = tells.passed;
+            by_row = is_X ∙ ap (with_completion_if met)
                 (sym (only_own ts t (Some (mine s t)) (rises (members_of s.threads) sound.roster)
                 (among (members_of s.threads) t m known)))
                 ∙ is.completions g (λ u x e. own_one (mine s t) t u x refl e) g_none
                 ∙ filter_map_same (λ u. option_or (g u) (ends_receiver (facts_in s) o u))
-                (completion_to (facts_in s) t c) ts completion_is,
-          );
+                (completion_to (facts_in s) t c) ts completion_is;
+          };
           follows = record {
             roster = marked.members ∙ is.members;
             number = refl;

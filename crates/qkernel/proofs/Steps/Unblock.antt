@@ -11,7 +11,8 @@ use Rattle.qkernel.proofs.Common.{uncancelled_items, unreceived_items, made_on, 
 use Rattle.qkernel.proofs.Common.{pending_in, members_of, channel_in, AreCancelled, LoseCancelled, has_room, State}
 use Rattle.qkernel.proofs.Common.{IsSound, Steps, facts_in, among, filter_map_same, only_own, rises, makes, Receipt}
 use Rattle.std.proofs.lemmas.List.{append-nil}
-use Rattle.qrules.specs.Rules.Unblock.{unblock_pulse, guards}
+use Rattle.qrules.specs.Rules.Unblock.{unblock_pulse}
+use Rattle.qrules.proofs.Words.Items.{guards}
 use Rattle.qmodel.specs.declared.open_call.OpenCall.TheVariants.{Receive, Send}
 use Rattle.qkernel_state.specs.declared.held.HeldMessage.{HeldMessage}
 use Rattle.qkernel.proofs.Steps.Common.{counted, stays_free, step_refused_alone, uncancelled_by}
@@ -139,13 +140,13 @@ module _ (s : State) (t thread : ℕ) (m : Member) (sound : IsSound s)
       step_unblock_cancelled threads channels X are lose is = (
         true,
         record {
-          answer = (
-            rw (up, free, known, fellow, k.none_due) refl,
-            is ∙ sym (filter_map_same (completion_to (facts_in s) t (Unblock thread))
+          answer = record {
+            no_refusal = rw (up, free, known, fellow, k.none_due) refl;
+            by_row = is ∙ sym (filter_map_same (completion_to (facts_in s) t (Unblock thread))
                 (λ u. cond (eqb u t) (Some (mine s t)) (cancel_where (λ o. eqb u thread) Intr u (open_in s.threads u)))
                 (threads_of (members_of s.threads))
-                (λ u. ap (cond (eqb u t) (Some (mine s t))) (ends_one u))),
-          );
+                (λ u. ap (cond (eqb u t) (Some (mine s t))) (ends_one u)));
+          };
           follows = record {
             roster = are.members;
             number = refl;
@@ -199,14 +200,14 @@ module _ (s : State) (t thread : ℕ) (m : Member) (sound : IsSound s)
         step_unblock_again X is = (
           true,
           record {
-            answer = (
-              rw (up, free, known, fellow, none_due) refl,
-              is ∙ sym (filter_map_same (completion_to (facts_in s) t (Unblock thread))
+            answer = record {
+              no_refusal = rw (up, free, known, fellow, none_due) refl;
+              by_row = is ∙ sym (filter_map_same (completion_to (facts_in s) t (Unblock thread))
                   (λ u. cond (eqb u t) (Some (mine s t)) None) (threads_of (members_of s.threads))
                   (λ u. ap (cond (eqb u t) (Some (mine s t))) (ends_none u))
                   ∙ only_own _ t (Some (mine s t)) (rises (members_of s.threads) sound.roster)
-                  (among (members_of s.threads) t m known)),
-            );
+                  (among (members_of s.threads) t m known));
+            };
             follows = record {
               roster = refl;
               number = refl;

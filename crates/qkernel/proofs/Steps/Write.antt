@@ -49,12 +49,12 @@ module _ (s : State) (t : ℕ) (m : Member) (i : ℕ) (sound : IsSound s)
   step_written offset bytes threads X changes is = (
     true,
     record {
-      answer = (
-        rw (up, free, is_held s t m i sound known, held) refl,
-        is
+      answer = record {
+        no_refusal = rw (up, free, is_held s t m i sound known, held) refl;
+        by_row = is
             ∙ rw (← reply_buffer_same (facts_in s) i)
-            (sym (only_own _ t _ (rises (members_of s.threads) sound.roster) (among (members_of s.threads) t m known))),
-      );
+            (sym (only_own _ t _ (rises (members_of s.threads) sound.roster) (among (members_of s.threads) t m known)));
+      };
       follows = record {
         roster = changes.members;
         number = refl;

@@ -1,6 +1,6 @@
 -- One call, described only by the kernel's content.
 use Rattle.std.specs.Prelude.{ℕ, Bool, List}
-use Rattle.qrules.specs.Outcome.{Outcome}
+use Rattle.qrules.proofs.Words.Outcome.{Outcome}
 use Rattle.qrules.proofs.Words.Step.{Follows}
 use Rattle.qmodel.specs.declared.call.Call.{Call}
 use Rattle.qmodel.specs.declared.call.Completion.{Completion}

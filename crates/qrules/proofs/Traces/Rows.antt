@@ -1,10 +1,11 @@
 -- The completions of rows, each by the open call that it completes.
-use Rattle.qrules.proofs.Common.{arith, ◌≡◌, ℕ, List, [], cond, eqb, guards, unblock_pulse, cancels, deliver, route}
+use Rattle.qrules.proofs.Common.{arith, ◌≡◌, ℕ, List, [], cond, eqb, unblock_pulse, deliver, route, cancel_where}
 use Rattle.qrules.proofs.Common.{send_of, Facts, Intr, SentItem, row_of}
-use Rattle.std.specs.Prelude.{Option, None, Some, not, option_and_then, option_map, ◌&&◌, ◌==◌}
-use Rattle.qmodel.specs.declared.call.Call.TheVariants.{Send as SendCall, Unblock as UnblockCall}
+use Rattle.qrules.proofs.Words.Items.{guards}
 use Rattle.qrules.proofs.Words.Items.{delivers, ends_receiver, ends_sender, message_item, receiver, ends_unblocked}
 use Rattle.qrules.proofs.Words.Items.{Finish}
+use Rattle.std.specs.Prelude.{Option, None, Some, not, option_and_then, option_map, ◌&&◌, ◌==◌}
+use Rattle.qmodel.specs.declared.call.Call.TheVariants.{Send as SendCall, Unblock as UnblockCall}
 
 -- the completion by a pulse that is sent
 pub pulse_same : (f : Facts) (pulse : Option SentItem) (u : ℕ) → deliver f pulse [] u ≡ ends_receiver f pulse u
@@ -29,7 +30,7 @@ answer_same f finish sender u = grind arith
 -- ---- Unblock
 
 none_cancelled : (f : Facts) (thread : ℕ) (m : SentItem) (u : ℕ) → unblock_pulse f thread ≡ Some m
-    → cancels f (λ v o. (v == thread) && not (guards f o)) Intr u ≡ None
+    → cancel_where (λ o. (u == thread) && not (guards f o)) Intr u (f.open_call u) ≡ None
 none_cancelled f thread m u due = grind arith
 
 -- an Unblock that sends a pulse cancels no call

@@ -1,21 +1,23 @@
 -- Items, and the receipt that a call causes. The receipt isn't part of the call's row, but the facts after
 -- the call depend on it.
-pub use Rattle.qrules.specs.Records.{disconnect_item, pulses_among, wait_on, is_after, is_last_wait}
-pub use Rattle.qrules.specs.Records.{is_newest, newest_receiver_among, takes_into, takes, cancel_where}
-pub use Rattle.qrules.specs.Records.{error_mark, receive_of}
+pub use Rattle.qrules.specs.Records.{disconnect_item, pulses_among, is_after, is_newest, newest_receiver_among}
+pub use Rattle.qrules.specs.Records.{takes_into, takes, error_mark, receive_of}
+pub use Rattle.qrules.specs.Delivery.{is_last_wait, wait_on, cancel_where}
 use Rattle.std.specs.Option.{option_and_then, option_map, option_map_or}
 use Rattle.qrules.proofs.Common.{ℕ, ℤ, ◌&&◌, ◌==◌, Bool, false, List, not, Option, None, Some, if◌then◌else◌, []}
 use Rattle.qrules.proofs.Common.{SentItem, CallNo, ChannelId, Priority, ReceiveId, ThreadNo, PriorityChange, buffer_of}
 use Rattle.qrules.proofs.Common.{own_completion, Receive, Send, pulse_over, Item, Kind, Any, PulseOnly, best_of}
-use Rattle.qrules.proofs.Common.{is_pulse, Connection, Call, Completion, Mark, Receipt, OpenCall, Errno, Intr}
-use Rattle.qrules.proofs.Common.{newest_receiver, receipt_completion, disconnect_pulse, guards, unblock_pulse}
+use Rattle.qrules.proofs.Common.{is_pulse, lay_over, Connection, Transfer, Call, Completion, Mark, Receipt, OpenCall}
+use Rattle.qrules.proofs.Common.{Errno, Intr, newest_receiver, receipt_completion, disconnect_pulse, refusal_if_full}
+use Rattle.qrules.proofs.Common.{send_in, unblock_pulse}
+use Rattle.qrules.specs.Rules.Unblock.{is_guarded}
 use Rattle.qqueue.specs.declared.item.What.TheVariants.{Message, User}
 use Rattle.qmodel.specs.declared.call.Info.{Info}
 use Rattle.qrules.proofs.Words.Facts.{Facts, message, route, sender}
 use Rattle.qqueue.specs.declared.item.What.TheVariants as what
 use Rattle.qmodel.specs.declared.call.Call.TheVariants as calls
 use Rattle.qmodel.specs.declared.call.Mark.TheVariants as mark
-pub use Rattle.qrules.specs.Past.{buffer_after_write, item_in}
+pub use Rattle.qrules.specs.Past.{item_in}
 
 -- ---- items
 
@@ -49,6 +51,11 @@ priority_set_for setting u = option_and_then (λ s. if s.thread == u then Some s
 abbrev pub names : Option ℕ → ℕ → Bool
 names number h = option_map_or (λ k. k == h) number false
 
+-- the reply buffer of message i after this Write, if there is one and it is to message i
+abbrev pub buffer_after_write : Option Transfer → ReceiveId → List ℕ → List ℕ
+buffer_after_write written i b =
+    option_map_or (λ w. if w.rcvid == i then lay_over b w.offset w.bytes else b) written b
+
 -- ---- receivers
 
 -- the newest receiver of the item, if it is sent to a channel
@@ -70,6 +77,14 @@ delivers f item message receiver u =
 abbrev pub ends_receiver : Facts → Option SentItem → ThreadNo → Option Completion
 ends_receiver f pulse u = option_and_then (λ m. delivers f m.item [] (receiver f m.item (Some m.channel)) u)
     pulse
+
+-- Again if a pulse is sent to a channel on which 1,024 pulses are queued
+abbrev pub refusal_if_full_for : Facts → Option SentItem → Option Errno
+refusal_if_full_for f pulse = option_and_then (λ m. refusal_if_full f m.channel) pulse
+
+-- the open call is a Send that its channel guards against cancelling
+abbrev pub guards : Facts → OpenCall → Bool
+guards f o = option_map_or (is_guarded f) (send_in o) false
 
 -- if there is no pulse, the completion of the thread's call, which is cancelled unless it is guarded;
 -- otherwise the completion of the call that takes the pulse

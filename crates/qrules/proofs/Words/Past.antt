@@ -6,24 +6,19 @@ use Rattle.qrules.proofs.Common.{items_and_priorities, list_any, option_map_or, 
 use Rattle.qrules.proofs.Common.{channel_of}
 use Rattle.qrules.proofs.Words.Facts.{count_to, is_fixed, with_buffer, held_call}
 use Rattle.qrules.proofs.Words.Items.{item_in}
-pub use Rattle.qrules.specs.Past.{accepted_at, attached_connection, channel_at, connection_at}
-pub use Rattle.qrules.specs.Past.{is_accepted, is_destroyed, is_ended, is_failure, is_unblock_for}
-pub use Rattle.qrules.specs.Past.{item_among, priority_set_by, sender_of, was_done, with_writes}
-pub use Rattle.qrules.specs.Past.{copied_count_of, current_priority}
-pub use Rattle.qrules.specs.Past.{first_among, is_gone, is_received, items_by_now, pending_among}
-pub use Rattle.qrules.specs.Past.{priority_set_since, ReceivedItem}
-pub use Rattle.qrules.specs.Past.{asks, call_by_now, newest_block, open_call_by, send_by_now}
-pub use Rattle.qrules.specs.Properties.{items, priority_before}
+pub use Rattle.qrules.specs.Past.{accepted_at, attached_connection, channel_at, connection_at, is_accepted}
+pub use Rattle.qrules.specs.Past.{is_destroyed, is_ended, is_failure, is_unblock_for, item_among, priority_set_by}
+pub use Rattle.qrules.specs.Past.{sender_of, was_done, with_writes, copied_count_of, current_priority, first_among}
+pub use Rattle.qrules.specs.Past.{is_gone, is_received, items_by_now, pending_among, priority_set_since, ReceivedItem}
+pub use Rattle.qrules.specs.Past.{asks, call_by_now, newest_block, open_call_by}
+pub use Rattle.qrules.specs.Properties.{items}
+pub use Rattle.qrules.specs.Trace.{completes}
 
 -- ---- accepted calls and completions
 
 -- call n fails in these completions: one of them is of call n, and is a failure
 abbrev pub refuses : List Completion → CallNo → Bool
 refuses completions n = list_any (λ x. (x.call == n) && is_failure x.mark) completions
-
--- one of these completions is of call i
-abbrev pub has_completion_of : List Completion → CallNo → Bool
-has_completion_of completions i = list_any (λ x. x.call == i) completions
 
 -- ---- channels and connections
 
@@ -92,6 +87,10 @@ priority_from_completion priority t x =
 -- gave it one
 abbrev pub priority_of_thread : List Member → Trace → ThreadNo → Priority
 priority_of_thread roster past t = (items_and_priorities roster past).priority t
+
+-- the priority of item i before event e, or the priority with which the event makes it; 0 if there is no item i
+abbrev pub priority_before : List Member → Trace → Event → CallNo → Priority
+priority_before roster past e i = priority_of_made (item_among (items_by_now past (items roster (e ∷ past))) i)
 
 -- ---- the facts after a history
 

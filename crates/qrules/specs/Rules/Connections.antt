@@ -1,11 +1,11 @@
 -- ConnectAttach and ConnectDetach.
 use Rattle.std.specs.Prelude.{◌&&◌, ◌==◌, if◌then◌else◌}
-use Rattle.qrules.specs.Words.{false, is_some, nat_lt, option_and_then, option_map_or, true, Again, Badf}
-use Rattle.qrules.specs.Words.{Connection, Inval, None, Option, Some, Srch, ℕ}
+use Rattle.qrules.specs.Words.{[], false, is_some, member_at, nat_lt, option_and_then, option_map_or}
+use Rattle.qrules.specs.Words.{true, Again, Badf, Connection, Inval, None, Option, Some, Srch, ℕ}
 use Rattle.qrules.specs.Trace.{ChannelId, ConnectionId, ThreadNo}
-use Rattle.qrules.specs.Facts.{count_to, has_flag, is_of_process, Facts}
-use Rattle.qrules.specs.Rule.{new_item, no_effect, plain_row, Rule, SentItem}
-use Rattle.qrules.specs.Delivery.{cancels, is_over, pulse_row, refusal_if_full_for}
+use Rattle.qrules.specs.Facts.{count_to, has_flag, is_in_process, send_in, Facts}
+use Rattle.qrules.specs.Rule.{new_item, no_effect, own_row, Rule, SentItem}
+use Rattle.qrules.specs.Delivery.{cancel_where, pulse_row, refusal_if_full}
 use Rattle.qrules.specs.Words.mark
 use Rattle.qrules.specs.Words.what
 
@@ -13,10 +13,10 @@ use Rattle.qrules.specs.Words.what
 -- Srch if the channel isn't open, then with Again if 1,024 connections are live.
 abbrev pub connect_attach : ChannelId → Rule
 connect_attach h = record {
-  row = λ f t. record (plain_row f t
+  row = λ f t. record (own_row f t
       (if is_some (f.channel h) then (if nat_lt f.live_connections 1024 then None else Some Again)
       else Some Srch)
-      (mark.Connection f.number)) { takes_memory = true };
+      (mark.Connection f.number) []) { takes_memory = true };
   effect = record no_effect { attaches = Some h };
 }
 
@@ -39,8 +39,9 @@ disconnect_pulse f t k = option_and_then
 abbrev pub connect_detach : ConnectionId → Rule
 connect_detach k = record {
   row = λ f t. pulse_row f t
-      (if option_map_or (λ c. is_of_process f t c.process) (f.connection k) false
-      then refusal_if_full_for f (disconnect_pulse f t k) else Some Inval)
-      (cancels f (λ u. is_over k) Badf) (disconnect_pulse f t k);
+      (if option_map_or (λ c. is_in_process c.process (member_at f.roster t)) (f.connection k) false
+      then option_and_then (λ m. refusal_if_full f m.channel) (disconnect_pulse f t k) else Some Inval)
+      (λ u. cancel_where (λ o. option_map_or (λ s. s.connection == k) (send_in o) false) Badf u
+      (f.open_call u)) (disconnect_pulse f t k);
   effect = record no_effect { detaches = Some k; makes = λ f t. disconnect_pulse f t k };
 }

@@ -1,13 +1,11 @@
 -- The calls on a held message: Reply, Error, Read, Write and Info.
 use Rattle.std.specs.Prelude.{◌==◌, if◌then◌else◌}
 use Rattle.qrules.specs.Words.{[], drop, int_eq, laid_count, lay_over, length, member_at, option_and_then}
-use Rattle.qrules.specs.Words.{option_map, pos, Errno, Info, Mark, Member, None, Option, Some}
-use Rattle.qrules.specs.Words.{Srch, ℤ}
+use Rattle.qrules.specs.Words.{option_map, pos, Errno, Info, Mark, Member, None, Option, Some, Srch, ℤ}
 use Rattle.qrules.specs.Trace.{Bytes, ReceiveId, ThreadNo}
-use Rattle.qrules.specs.Facts.{holds, message, reply_buffer, send_of, sender, Facts, OpenCall}
-use Rattle.qrules.specs.Rule.{no_effect, own_completion, own_row, plain_row, Row, Rule, Transfer}
+use Rattle.qrules.specs.Facts.{holds, message, reply_buffer, send_of, sender, Facts, OpenSend}
+use Rattle.qrules.specs.Rule.{no_effect, own_completion, own_row, Row, Rule, Transfer}
 use Rattle.qrules.specs.Words.mark
-use Rattle.qmodel.specs.declared.open_call.OpenCall.TheVariants.{Receive, Send}
 
 -- Srch if thread t doesn't hold message i
 abbrev pub refusal_unless_held : Facts → ThreadNo → ReceiveId → Option Errno
@@ -16,7 +14,7 @@ refusal_unless_held f t i = if holds f t i then None else Some Srch
 -- the row of a call that replies to message i. The function answer takes the reply buffer, and returns the
 -- result of the Send's completion and the buffer that the Send gets back.
 abbrev pub answer_row : ReceiveId → (Bytes → Mark × Bytes) → Facts → ThreadNo → Row
-answer_row i answer f t = record (plain_row f t (refusal_unless_held f t i) mark.Ok) {
+answer_row i answer f t = record (own_row f t (refusal_unless_held f t i) mark.Ok []) {
   others = λ u. option_and_then (λ s. if u == s then option_map (λ x. record {
     call = x.number;
     thread = u;
@@ -56,14 +54,14 @@ read r = record {
 -- copied
 abbrev pub write : Transfer → Rule
 write w = record {
-  row = λ f t. plain_row f t (refusal_unless_held f t w.rcvid)
-      (mark.Count (laid_count (reply_buffer f w.rcvid) w.offset w.bytes));
+  row = λ f t. own_row f t (refusal_unless_held f t w.rcvid)
+      (mark.Count (laid_count (reply_buffer f w.rcvid) w.offset w.bytes)) [];
   effect = record no_effect { writes = Some w };
 }
 
 -- the data of this member's open Send; None if its message hasn't been received
-abbrev pub info_of_call : Member → OpenCall → Option Info
-info_of_call m (Send s) = option_map (λ receipt. record {
+abbrev pub info_of_send : Member → OpenSend → Option Info
+info_of_send m s = option_map (λ receipt. record {
   process = m.process;
   thread = m.thread;
   connection = s.connection;
@@ -72,17 +70,16 @@ info_of_call m (Send s) = option_map (λ receipt. record {
   dstmsglen = length s.reply_buffer;
   priority = receipt.priority;
 }) s.receipt
-info_of_call m (Receive r) = None
 
 -- the data of the message with which this thread is REPLY-blocked
 abbrev pub info_of : Facts → Option ThreadNo → Option Info
-info_of f sender = option_and_then (λ s. option_and_then
-    (λ m. option_and_then (info_of_call m) (f.open_call s)) (member_at f.roster s)) sender
+info_of f sender = option_and_then (λ u. option_and_then
+    (λ m. option_and_then (info_of_send m) (send_of f u)) (member_at f.roster u)) sender
 
 -- Info: returns the data of a held message
 abbrev pub info : ReceiveId → Rule
 info i = record {
-  row = λ f t. record (plain_row f t (refusal_unless_held f t i) mark.Ok)
+  row = λ f t. record (own_row f t (refusal_unless_held f t i) mark.Ok [])
       { own = option_map (λ told. own_completion f t (mark.Info told) []) (info_of f (sender f i)) };
   effect = no_effect;
 }

@@ -1,9 +1,10 @@
 -- The lines of one more event.
 use Rattle.qscript.proofs.Common.{Bool, Call, Completion, Event, HasPrinted, List, Printer, Run, Some, [], append-nil}
 use Rattle.qscript.proofs.Common.{arith, call_by, ended_text, event_text, false, flat_map, get_or, get_or_past, inl}
-use Rattle.qscript.proofs.Common.{inr, is_shown, length, length-append, length-map, map, map-append, option_map, refl}
-use Rattle.qscript.proofs.Common.{shows_at, shows_buffer, shows_own, slice_get, string_bytes, suc, sym, take, take_more}
-use Rattle.qscript.proofs.Common.{texts_from, with_more, zero, ℕ, ◌++◌, ◌+◌, ◌-◌, ◌∙◌, ◌∷◌, ◌≡◌}
+use Rattle.qscript.proofs.Common.{inr, length, length-append, length-map, map, map-append, option_map}
+use Rattle.qscript.proofs.Common.{refl, shows_at, shows_buffer, shows_own, slice_get, string_bytes, suc, sym, take}
+use Rattle.qscript.proofs.Common.{take_more, texts_from, with_more, zero, ℕ, ◌++◌, ◌+◌, ◌-◌, ◌∙◌, ◌∷◌, ◌≡◌}
+use Rattle.std.specs.Option.{option_map_or}
 use Rattle.std.proofs.lemmas.Bool.Decides.{nat_tests}
 use Rattle.std.proofs.lemmas.Option.{slice_get_cases}
 use Rattle.qscript.proofs.Output.Extended.{same_texts, texts_both}
@@ -11,14 +12,15 @@ use Rattle.qscript.proofs.Output.Extended.{same_texts, texts_both}
 -- ---- whether a buffer is printed
 
 shown_same : (es : List Event) (k : ℕ)
-    → is_shown (option_map (λ (e : Event). e.call) (slice_get es k)) ≡ get_or (map shows_own es) k false
+    → option_map_or shows_buffer (option_map (λ (e : Event). e.call) (slice_get es k)) false
+    ≡ get_or (map shows_own es) k false
 shown_same [] k = refl
 shown_same (e ∷ es) zero = refl
 shown_same (e ∷ es) (suc k) = shown_same es k
 
 -- for calls up to the newest event, the list says whether the buffer is printed
 shows_same : (run : Run) (event number : ℕ) → event + 1 ≡ run.first + length run.events
-    → is_shown (call_by run event number) ≡ shows_at run.first (map shows_own run.events) number
+    → option_map_or shows_buffer (call_by run event number) false ≡ shows_at run.first (map shows_own run.events) number
 shows_same run event number h =
     grind (
       arith,

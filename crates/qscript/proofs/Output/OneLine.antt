@@ -1,8 +1,10 @@
 -- Printed lines have no newline inside.
 use Rattle.qscript.proofs.Common.{Blocked, Bool, Completion, Event, HasLines, IsLines, IsOneLine, List, Run, [], ap}
-use Rattle.qscript.proofs.Common.{arith, call_by, codes, decimal, completions_in, false, flat_map, get_or, is_shown}
-use Rattle.qscript.proofs.Common.{length, length-append, list_all, negsuc, not, pos, refl, suc, sym, texts_from, true}
-use Rattle.qscript.proofs.Common.{with_newline, words_with_spaces, zero, ℕ, ℤ, ◌%◌, ◌++◌, ◌+◌, ◌/◌, ◌==◌, ◌∷◌, ◌≡◌}
+use Rattle.qscript.proofs.Common.{arith, call_by, codes, decimal, completions_in, false, flat_map, get_or}
+use Rattle.qscript.proofs.Common.{length, length-append, list_all, negsuc, not, pos, refl, shows_buffer}
+use Rattle.qscript.proofs.Common.{suc, sym, texts_from, true, with_newline, words_with_spaces, zero, ℕ, ℤ, ◌%◌, ◌++◌}
+use Rattle.qscript.proofs.Common.{◌+◌, ◌/◌, ◌==◌, ◌∷◌, ◌≡◌}
+use Rattle.std.specs.Option.{option_map_or}
 use Rattle.std.specs.Fmt.{digit_glyph, digits_onto, digits, signed_decimal}
 use Rattle.std.proofs.lemmas.Bool.Decides.{nat_tests}
 use Rattle.std.proofs.lemmas.Grind.{flat_map-append}
@@ -12,7 +14,9 @@ use Rattle.qbase.proofs.Lists.{all_append}
 use Rattle.qmodel.specs.declared.call.Mark.{Mark}
 use Rattle.qscript.specs.Printing.Marks.{mark_words}
 use Rattle.qscript.specs.Printing.State.{state_words}
-use Rattle.qscript.specs.Printing.Printed.{ended_words, printed}
+use Rattle.qscript.specs.Printing.Printed.{printed}
+use Rattle.qscript.specs.Printing.Buffer.{buffer_word}
+use Rattle.std.specs.Prelude.{if◌then◌else◌}
 
 -- a test: the text has no newline
 abbrev clean : List ℕ → Bool
@@ -61,7 +65,8 @@ mark_row mark = grind (arith, number, signed)
 
 ended_line : (event : ℕ) (e : Completion) (shows : Bool)
     → clean (decimal event ++ words_with_spaces (decimal e.call ∷ decimal e.thread ∷ []) ++ words_with_spaces
-    (mark_words e.mark) ++ words_with_spaces (ended_words e shows)) ≡ true
+    (mark_words e.mark) ++ words_with_spaces
+    (if shows then buffer_word e.buffer ∷ [] else [])) ≡ true
 ended_line event e shows = grind (arith, list_all-append, in_row, number, mark_row e.mark, hexadecimal e.buffer)
 
 abbrev open_front : Blocked → List ℕ
@@ -95,7 +100,8 @@ texts_lines : (run : Run) (n : ℕ) (es : List Event) → IsLines (texts_from ru
 texts_lines run n [] = record { lines = []; as_many = refl; each = tt; text_is = refl }
 texts_lines run n (e ∷ es) =
     both _ _ (length e.completions) (completions_in es)
-    (each_line _ (λ x. ended_line n x (is_shown (call_by run n x.call))) e.completions) (texts_lines run (n + 1) es)
+    (each_line _ (λ x. ended_line n x (option_map_or shows_buffer (call_by run n x.call) false)) e.completions)
+    (texts_lines run (n + 1) es)
 
 pub has_lines : HasLines
 unfolding printed

@@ -1,14 +1,14 @@
 -- Written bytes are read back.
 use Rattle.qscript.proofs.Common.{IsBytes, List, Ok, [], arith, buffer_word, encode_lower, is_hex_digit, length}
-use Rattle.qscript.proofs.Common.{list_all, list_all-from_AllPass, position_or_len, refl, true, ℕ, ◌*◌, ◌∷◌, ◌≡◌}
+use Rattle.qscript.proofs.Common.{list_all, list_all-from_AllPass, position_or_len, refl, true, ℕ, ◌*◌, ◌==◌, ◌∷◌, ◌≡◌}
 use Rattle.std.proofs.lemmas.Bool.Decides.{nat_tests}
 use Rattle.hex.proofs.HexLemmas.{decode_of-encode_lower, decode_of-ok}
-use Rattle.qscript_text.specs.Reading.Operand.{plain_of, bytes_of, is_cross}
+use Rattle.qscript_text.specs.Reading.Operand.{plain_of, bytes_of}
 use Rattle.qscript.proofs.Written.Words.{prints, is_word}
 
 -- hexadecimal digits print, and there is no `x` among them
 digits_print : (w : List ℕ) → list_all is_hex_digit w ≡ true → (list_all prints w ≡ true)
-    × (position_or_len is_cross w ≡ length w)
+    × (position_or_len (λ b. b == 120) w ≡ length w)
 digits_print [] h = (refl, refl)
 digits_print (x ∷ xs) h = grind (arith, nat_tests, digits_print xs)
 

@@ -3,6 +3,8 @@ use Rattle.qscript.proofs.Common.{AllByRecursion, Bool, Call, IsSmall, IsTyped, 
 use Rattle.qscript.proofs.Common.{Member, Ok, Some, [], all_ascii_digits, ap, arith, bytes_eq, codes, decimal}
 use Rattle.qscript.proofs.Common.{digits_decimal, false, le-ltb, length, length-append, length-decimal-le, list_all}
 use Rattle.qscript.proofs.Common.{map, own, refl, subst, true, ℕ, ◌<◌, ◌^◌, ◌∙◌, ◌∷◌, ◌≡◌, ◌≤◌}
+use Rattle.std.specs.Prelude.{Option}
+use Rattle.std.specs.Option.{ok_or}
 use Rattle.std.proofs.lemmas.Bool.{false_from_ne_true}
 use Rattle.std.proofs.lemmas.Slice.Eq.{bytes_eq-Decides}
 use Rattle.qmodel.specs.declared.call.Call.TheVariants as calls
@@ -14,7 +16,8 @@ use Rattle.qmodel.specs.declared.operands.OperandKind.TheVariants as sort
 use Rattle.qmodel.specs.Buffers.{buffer_of, bytes_of}
 use Rattle.qmodel.specs.Kinds.{call_with, kind_named, kind_of, operands_of, script_word, sorts_of}
 use Rattle.qscript_text.specs.declared.reading.forms.Values.{Values}
-use Rattle.qscript_text.specs.Reading.Call.{call_by, call_of}
+use Rattle.qscript_text.specs.declared.fault.LineFault.TheVariants.{UnknownWord}
+use Rattle.qscript_text.specs.Reading.Call.{call_of}
 use Rattle.qscript_text.specs.Reading.Counts.{first_of}
 use Rattle.qscript_text.specs.Reading.Forms.{member_of, no_values, value_of, values_of}
 use Rattle.qscript_text.specs.Reading.Line.{is_text, call_line_of, roster_line_of, said_of, line_of}
@@ -89,7 +92,9 @@ call_named : (c : Call) → IsTyped c → (first_of (call_words c) >>= (λ ws. c
 unfolding call_words call_of
 call_named c h =
     let sorts = sorts_of (kind_of c) in
-    ap (λ k. call_by k (map (operand_word c) sorts)) (kind_back (kind_of c)).1
+    ap (λ (k : Option CallKind). ok_or k UnknownWord
+    >>= (λ kind. values_of (sorts_of kind) (map (operand_word c) sorts) (Ok no_values)
+    >>= (λ v. Ok (call_with kind v.numbers v.bytes v.buffer)))) (kind_back (kind_of c)).1
     ∙ ap (λ r. r >>= (λ v. Ok (call_with (kind_of c) v.numbers v.bytes v.buffer)))
     (operands_back c sorts no_values h).1 ∙ ap Ok (call_made c)
 

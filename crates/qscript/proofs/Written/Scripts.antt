@@ -8,7 +8,8 @@ use Rattle.qscript.proofs.Common.{◌-◌, ◌<◌, ◌==◌, ◌∙◌, ◌∷�
 use Rattle.std.proofs.lemmas.Bool.Decides.{nat_tests}
 use Rattle.qscript_text.specs.declared.reading.line.ScriptLine.{ScriptLine}
 use Rattle.qscript_text.specs.declared.reading.line.ScriptLine.TheVariants as lines
-use Rattle.qscript_text.specs.Reading.Lines.{lines_of, is_newline, without_return}
+use Rattle.qscript_text.specs.Reading.Lines.{lines_of, is_newline}
+use Rattle.qscript_text.proofs.Words.{without_return}
 use Rattle.qscript_text.specs.Reading.Meaning.{call_in, is_in, line_behind, line_with, member_in}
 use Rattle.qscript.specs.Writing.Text.{member_text, call_text, script_text}
 use Rattle.qscript_text.proofs.Texts.Lines.{lines_at, lines_none}

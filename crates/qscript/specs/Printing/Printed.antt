@@ -1,8 +1,8 @@
 -- The text of a run.
-use Rattle.std.specs.Prelude.{ℕ, ◌+◌, ◌-◌, ◌&&◌, nat_le, Bool, true, false, List, [], ◌∷◌, ◌++◌, Option, Some}
+use Rattle.std.specs.Prelude.{ℕ, ◌+◌, ◌-◌, ◌&&◌, nat_le, Bool, true, false, List, [], ◌∷◌, ◌++◌, Option}
 use Rattle.std.specs.Prelude.{None, if◌then◌else◌, slice_get, decimal}
 use Rattle.std.specs.List.{flat_map}
-use Rattle.std.specs.Option.{option_map}
+use Rattle.std.specs.Option.{option_map, option_map_or}
 use Rattle.qmodel.specs.declared.call.Call.{Call}
 use Rattle.qmodel.specs.declared.call.Call.TheVariants.{Read, Receive, Send}
 use Rattle.qmodel.specs.declared.call.Completion.{Completion}
@@ -10,7 +10,7 @@ use Rattle.qmodel.specs.declared.open_call.Blocked.{Blocked}
 use Rattle.qmodel.specs.Trace.{Event, Run}
 use Rattle.qscript.specs.Printing.Words.{words_with_spaces}
 use Rattle.qscript.specs.Printing.Marks.{mark_words}
-use Rattle.qscript.specs.Printing.Buffer.{buffer_words}
+use Rattle.qscript.specs.Printing.Buffer.{buffer_word}
 use Rattle.qscript.specs.Printing.OpenLine.{open_text}
 
 -- whether a call's buffer is printed when the call completes: for Send, Receive and Read, the calls that have
@@ -27,28 +27,17 @@ abbrev pub call_by : Run → ℕ → ℕ → Option Call
 call_by run event number = if nat_le run.first number && nat_le number event
     then option_map (λ e. e.call) (slice_get run.events (number - run.first)) else None
 
--- whether a completed call's buffer is printed; it isn't if the call was made before the run
-abbrev pub is_shown : Option Call → Bool
-is_shown None = false
-is_shown (Some call) = shows_buffer call
-
--- the words of a completed call's buffer, if it is printed
-abbrev pub ended_words : Completion → Bool → List (List ℕ)
-ended_words e shows = if shows then buffer_words e.buffer else []
-
 -- the line of a completion: the event, the call, its thread, its result, and its buffer if it is printed
 abbrev pub ended_text : ℕ → Completion → Bool → List ℕ
 ended_text event e shows =
     decimal event ++ words_with_spaces (decimal e.call ∷ decimal e.thread ∷ [])
-    ++ words_with_spaces (mark_words e.mark) ++ words_with_spaces (ended_words e shows) ++ 10 ∷ []
+    ++ words_with_spaces (mark_words e.mark)
+    ++ words_with_spaces (if shows then buffer_word e.buffer ∷ [] else []) ++ 10 ∷ []
 
--- the line of a completion in a run
-abbrev pub completion_text : Run → ℕ → Completion → List ℕ
-completion_text run event e = ended_text event e (is_shown (call_by run event e.call))
-
--- a line for each completion of an event
+-- a line for each completion of an event. The buffer of a call that was made before the run isn't printed.
 abbrev pub event_text : Run → ℕ → List Completion → List ℕ
-event_text run event completions = flat_map (completion_text run event) completions
+event_text run event completions = flat_map
+    (λ e. ended_text event e (option_map_or shows_buffer (call_by run event e.call) false)) completions
 
 -- the lines of these events of a run; the first of them has the number `event`
 abbrev pub texts_from : Run → ℕ → List Event → List ℕ

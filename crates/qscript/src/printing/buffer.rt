@@ -4,7 +4,7 @@ ghost use Rattle.std.specs.Prelude.{◌≡◌, ◌++◌, ◌∷◌, [], ◌<◌,
 ghost use Rattle.std.specs.Char.{encode_utf8};
 ghost use Rattle.hex.specs.Hex.{lower_digits, encode_lower};
 ghost use Rattle.qscript.specs.Printing.Words.{words_with_spaces};
-ghost use Rattle.qscript.specs.Printing.Buffer.{buffer_words};
+ghost use Rattle.qscript.specs.Printing.Buffer.{buffer_word};
 
 use std::alloc::AllocError;
 
@@ -32,7 +32,7 @@ fn push_digits(out: &mut String, bytes: &[u8]) -> Result<(), AllocError>
 /// Adds a space and the bytes in lowercase hexadecimal digits, or `-` if there are none.
 pub fn push_buffer(out: &mut String, bytes: &[u8]) -> Result<(), AllocError>
     ensures { OnOk result (string_bytes out.new ≡ string_bytes out.old ++ words_with_spaces
-        (buffer_words bytes.now)) }
+        (buffer_word bytes.now ∷ [])) }
 {
     if bytes.is_empty() {
         return write!(out, " -");

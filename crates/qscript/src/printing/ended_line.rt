@@ -1,9 +1,10 @@
 //! Prints the lines of an event: one for each of its completions.
 
-ghost use Rattle.std.specs.Prelude.{◌≡◌, ◌++◌, OnOk, string_bytes};
+ghost use Rattle.std.specs.Prelude.{◌≡◌, ◌++◌, ◌∷◌, [], if◌then◌else◌, OnOk, string_bytes};
 ghost use Rattle.std.specs.List.{flat_map};
 ghost use Rattle.qscript.specs.Printing.Words.{words_with_spaces};
-ghost use Rattle.qscript.specs.Printing.Printed.{shows_buffer, ended_words, ended_text};
+ghost use Rattle.qscript.specs.Printing.Printed.{shows_buffer, ended_text};
+ghost use Rattle.qscript.specs.Printing.Buffer.{buffer_word};
 ghost use Rattle.qscript.specs.Printing.Printer.{shows_at};
 
 use crate::printing::buffer::push_buffer;
@@ -41,7 +42,7 @@ fn push_ended_buffer(
     shows: bool,
 ) -> Result<(), AllocError>
     ensures { OnOk result (string_bytes out.new ≡ string_bytes out.old ++ words_with_spaces
-        (ended_words completion.now shows)) }
+        (if shows then buffer_word completion.now.buffer ∷ [] else [])) }
 {
     if shows {
         return push_buffer(out, completion.buffer.as_slice());

@@ -5,7 +5,8 @@ use Rattle.qscript_text.proofs.Common.{inl, inr, length-append, append-nil, All,
 use Rattle.qscript_text.proofs.Common.{common_steps, cases_lt, take_all, drop_all, slice_split_none, slice_split_at}
 use Rattle.qscript_text.proofs.Common.{split_at_first, fails_before_first, passes_at_first, prefix_len-le-length}
 use Rattle.qscript_text.proofs.Common.{is_empty}
-use Rattle.qscript_text.specs.Reading.Lines.{lines_of, is_newline, without_return, without_last_end}
+use Rattle.qscript_text.specs.Reading.Lines.{lines_of, is_newline}
+use Rattle.qscript_text.proofs.Words.{without_last_end, without_return}
 
 -- a text that is empty has no lines
 pub lines_none : (text : List ℕ) → length text ≡ 0 → lines_of text ≡ []

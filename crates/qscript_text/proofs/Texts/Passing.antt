@@ -11,8 +11,8 @@ use Rattle.qbase.proofs.Lists.{or_none}
 use Rattle.qscript_text.specs.declared.reading.line.ScriptLine.TheVariants as lines
 use Rattle.qscript_text.specs.Reading.Line.{line_of, said_of}
 use Rattle.qscript_text.specs.Reading.Meaning.{Faulty, Says, member_in, call_in, roster_of, calls_of, line_behind}
-use Rattle.qscript_text.specs.Reading.Meaning.{line_with, line_after, fault_in, fault_at, first_fault, fault_or}
-use Rattle.qscript_text.specs.Reading.Meaning.{of_lines}
+use Rattle.qscript_text.specs.Reading.Meaning.{line_with, line_after, fault_at, first_fault}
+use Rattle.qscript_text.proofs.Words.{fault_in, fault_or, of_lines}
 
 -- ---- its content
 

@@ -10,8 +10,8 @@ use Rattle.qscript_text.specs.declared.fault.ScriptFault.{ScriptFault}
 use Rattle.qscript_text.specs.declared.fault.ScriptFault.TheVariants as scripts
 use Rattle.qscript_text.specs.Reading.Line.{line_of}
 use Rattle.qscript_text.specs.Reading.Meaning.{TooLong, Faulty, Says, meaning, of_line, IsFaultOf, member_in, call_in}
-use Rattle.qscript_text.specs.Reading.Meaning.{roster_of, calls_of, line_with, line_after, first_fault, fault_or}
-use Rattle.qscript_text.specs.Reading.Meaning.{of_lines}
+use Rattle.qscript_text.specs.Reading.Meaning.{roster_of, calls_of, line_with, line_after, first_fault}
+use Rattle.qscript_text.proofs.Words.{fault_or, of_lines}
 use Rattle.qscript_text.proofs.Texts.Early.{alone}
 
 -- ---- the first lines of a list

@@ -4,7 +4,8 @@ use Rattle.qscript_text.proofs.Common.{drop, get_or, length-take, position, filt
 use Rattle.qscript_text.proofs.Common.{ap, ◌∙◌, arith, inl, inr, All, slice_split, position_or_len, common_steps}
 use Rattle.qscript_text.proofs.Common.{slice_split_none, slice_split_first, fails_before_first, passes_at_first}
 use Rattle.qscript_text.proofs.Common.{prefix_len-le-length, take_all, drop_all, drop_more, cases_lt}
-use Rattle.qscript_text.specs.Reading.Words.{words_of, is_blank, is_empty}
+use Rattle.qscript_text.specs.Reading.Words.{words_of, is_blank}
+use Rattle.qscript_text.proofs.Words.{is_empty}
 
 -- ---- places
 

@@ -4,7 +4,6 @@ use Rattle.std.specs.Prelude.{ℕ, ◌^◌, List, [], ◌∷◌, Result, Ok, Err
 use Rattle.qtables.specs.declared.member.Member.{Member}
 use Rattle.qmodel.specs.declared.operands.OperandKind.{OperandKind}
 use Rattle.qmodel.specs.declared.operands.OperandKind.TheVariants as sort
-use Rattle.qmodel.specs.declared.operands.Operands.{Operands}
 use Rattle.qmodel.specs.Operands.{no_operands}
 use Rattle.qscript_text.specs.declared.fault.LineFault.{LineFault}
 use Rattle.qscript_text.specs.declared.fault.LineFault.TheVariants.{WordCount}
@@ -58,23 +57,15 @@ value_of sort.Data word v = bytes_in word v
 value_of sort.ReplyBuffer word v = buffer_in word v
 value_of sort.Buffer word v = buffer_in word v
 
--- the values with one more word, unless an earlier word was faulty
-abbrev pub value_behind : Result Values LineFault → OperandKind → List ℕ → Result Values LineFault
-value_behind read s word = read >>= value_of s word
-
 -- the values with the words of operands of these sorts, or the first fault. A wrong number of words comes
--- before all other faults
+-- before all other faults, and an earlier fault before a later one
 abbrev pub values_of : List OperandKind → List (List ℕ) → Result Values LineFault → Result Values LineFault
 values_of [] [] read = read
-values_of (s ∷ sorts) (word ∷ words) read = values_of sorts words (value_behind read s word)
+values_of (s ∷ sorts) (word ∷ words) read = values_of sorts words (read >>= value_of s word)
 values_of sorts words read = Err WordCount
-
--- the member of the roster with these numbers
-abbrev pub member_with : Operands → Member
-member_with o = record { thread = o.thread; process = o.process; priority = o.priority }
 
 -- the member of a roster line: a thread, its process and its base priority
 unfoldable pub member_of : List (List ℕ) → Result Member LineFault
 member_of operands = do
   v ← values_of (sort.Thread ∷ sort.Process ∷ sort.Priority ∷ []) operands (Ok no_values)
-  Ok (member_with v.numbers)
+  Ok (record { thread = v.numbers.thread; process = v.numbers.process; priority = v.numbers.priority })

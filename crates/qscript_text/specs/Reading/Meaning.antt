@@ -2,7 +2,8 @@
 use Rattle.std.specs.Prelude.{◌≡◌, ℕ, zero, suc, ◌+◌, ◌==◌, Bool, false, List, [], length, take, Option, Some}
 use Rattle.std.specs.Prelude.{None, Result, Ok, Err, nat_lt, nat_le, if◌then◌else◌, slice_index_or}
 use Rattle.std.specs.List.{list_any, filter_map}
-use Rattle.std.specs.Option.{option_or}
+use Rattle.std.specs.Option.{option_map, option_map_or, option_or}
+use Rattle.std.specs.Result.{result_err}
 use Rattle.qtables.specs.declared.member.Member.{Member}
 use Rattle.qmodel.specs.declared.call.Call.{Call}
 use Rattle.qscript_text.specs.declared.reading.line.ScriptLine.{ScriptLine}
@@ -75,14 +76,10 @@ line_after before line = line_with (roster_of before) (calls_of before) line
 
 -- ---- a whole text
 
--- the fault of the line of this number
-abbrev pub fault_in : ℕ → Result ScriptLine LineFault → Option (ℕ × LineFault)
-fault_in n (Ok line) = None
-fault_in n (Err fault) = Some (n, fault)
-
 -- the fault of line n, counted from 0, after the lines above it
 abbrev pub fault_at : List (List ℕ) → ℕ → Option (ℕ × LineFault)
-fault_at lines n = fault_in n (line_after (take n lines) (slice_index_or lines n []))
+fault_at lines n =
+    option_map (λ f. (n, f)) (result_err (line_after (take n lines) (slice_index_or lines n [])))
 
 -- the number of the first faulty line among the first n, counted from 0, and its fault
 unfoldable pub first_fault : List (List ℕ) → ℕ → Option (ℕ × LineFault)
@@ -95,18 +92,11 @@ pub data Meaning : Type 0 where
   Faulty : ℕ → LineFault → Meaning
   Says : List Member → List (ℕ × Call) → Meaning
 
--- the fault if there is one, with its line counted from 1; this meaning if there is none
-abbrev pub fault_or : Option (ℕ × LineFault) → Meaning → Meaning
-fault_or None m = m
-fault_or (Some f) m = Faulty (f.0 + 1) f.1
-
--- the meaning of these lines
-abbrev pub of_lines : List (List ℕ) → Meaning
-of_lines lines = fault_or (first_fault lines (length lines)) (Says (roster_of lines) (calls_of lines))
-
--- the meaning of a text
+-- the meaning of a text: the fault of its first faulty line, with the line counted from 1, if there is one
 unfoldable pub meaning : List ℕ → Meaning
-meaning text = if nat_lt most_text (length text) then TooLong else of_lines (lines_of text)
+meaning text = let lines : List (List ℕ) = lines_of text in if nat_lt most_text (length text) then TooLong
+    else option_map_or (λ f. Faulty (f.0 + 1) f.1) (first_fault lines (length lines))
+    (Says (roster_of lines) (calls_of lines))
 
 -- ---- the result of reading
 

@@ -1,7 +1,7 @@
 -- The numbers of a script.
 use Rattle.std.specs.Prelude.{ℕ, ◌==◌, ◌&&◌, Bool, List, length, drop, Option, Some, None, Result, Ok, Err}
 use Rattle.std.specs.Prelude.{nat_lt, nat_le, if◌then◌else◌, slice_index, ℤ, pos, negsuc, neg_ℤ}
-use Rattle.std.specs.Option.{option_map}
+use Rattle.std.specs.Option.{ok_or, option_map}
 use Rattle.std.specs.Str.{all_ascii_digits}
 use Rattle.std.specs.Str.Parse.{digits_value}
 use Rattle.qbase.specs.Priority.{priority_of as level_of}
@@ -14,25 +14,17 @@ unfoldable pub digits_of : List ℕ → Option ℕ
 digits_of word = if nat_lt 0 (length word) && nat_le (length word) 20 && all_ascii_digits word
     then Some (digits_value 10 word) else None
 
--- the value if it is below the limit
-abbrev pub value_below : ℕ → Option ℕ → Result ℕ LineFault
-value_below limit None = Err BadNumber
-value_below limit (Some n) = if nat_lt n limit then Ok n else Err BadNumber
-
 -- a number below the limit
 unfoldable pub number_of : ℕ → List ℕ → Result ℕ LineFault
-number_of limit word = value_below limit (digits_of word)
-
--- the priority of a level, if the level is one
-abbrev pub priority_at : Option ℕ → Result ℕ LineFault
-priority_at None = Err BadPriority
-priority_at (Some level) = Ok level
+number_of limit word = do
+  n ← ok_or (digits_of word) BadNumber
+  if nat_lt n limit then Ok n else Err BadNumber
 
 -- a priority: a number below 256 that is a level
 unfoldable pub priority_of : List ℕ → Result ℕ LineFault
 priority_of word = do
   level ← number_of 256 word
-  priority_at (level_of level)
+  ok_or (level_of level) BadPriority
 
 -- the value of digits, with or without a minus sign in front
 unfoldable pub signed_of : List ℕ → Option ℤ
@@ -45,11 +37,8 @@ abbrev pub is_within : ℕ → ℤ → Bool
 is_within limit (pos n) = nat_lt n limit
 is_within limit (negsuc n) = nat_lt n limit
 
--- the value if it is within the limit
-abbrev pub value_within : ℕ → Option ℤ → Result ℤ LineFault
-value_within limit None = Err BadNumber
-value_within limit (Some z) = if is_within limit z then Ok z else Err BadNumber
-
 -- a signed number within the limit
 unfoldable pub integer_of : ℕ → List ℕ → Result ℤ LineFault
-integer_of limit word = value_within limit (signed_of word)
+integer_of limit word = do
+  z ← ok_or (signed_of word) BadNumber
+  if is_within limit z then Ok z else Err BadNumber

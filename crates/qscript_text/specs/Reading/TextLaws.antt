@@ -4,7 +4,7 @@ use Rattle.std.specs.Prelude.{◌++◌, length, nat_le, if◌then◌else◌, sli
 use Rattle.std.specs.List.{All}
 use Rattle.qscript_text.specs.TextLimit.{most_text}
 use Rattle.qscript_text.specs.Reading.Words.{words_of}
-use Rattle.qscript_text.specs.Reading.Lines.{lines_of, is_newline, without_return}
+use Rattle.qscript_text.specs.Reading.Lines.{lines_of, is_newline, without_last}
 use Rattle.qscript_text.specs.Reading.Meaning.{Meaning, TooLong, Faulty, Says, meaning}
 
 -- whether a line of these words is blank or a comment
@@ -32,7 +32,7 @@ meaning_one_line_later k (Says roster calls) = Says roster calls
 
 -- a blank line or a comment between two lines changes only the numbers of the lines after it
 abbrev pub PassesOver : Type 0
-PassesOver = (front line back : List ℕ) → IsWhole front → IsOneLine line → IsPassedOver (without_return line)
+PassesOver = (front line back : List ℕ) → IsWhole front → IsOneLine line → IsPassedOver (without_last 13 line)
     → length (front ++ line ++ 10 ∷ back) ≤ most_text
     → meaning (front ++ line ++ 10 ∷ back)
     ≡ meaning_one_line_later (length (lines_of front)) (meaning (front ++ back))

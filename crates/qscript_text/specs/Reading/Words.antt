@@ -6,10 +6,6 @@ use Rattle.std.specs.List.{slice_split}
 abbrev pub is_blank : ℕ → Bool
 is_blank b = (b == 32) || (b == 9)
 
--- no bytes
-abbrev pub is_empty : List ℕ → Bool
-is_empty bytes = length bytes == 0
-
 -- the words of a line, cut at each space and tab
 unfoldable pub words_of : List ℕ → List (List ℕ)
-words_of line = filter (λ word. not (is_empty word)) (slice_split is_blank line)
+words_of line = filter (λ word. not (length word == 0)) (slice_split is_blank line)

@@ -1,7 +1,7 @@
 //! Reads words of a script as bytes.
 
-ghost use Rattle.std.specs.Prelude.{◌≡◌, ◌<◌, length, position, IfSome};
-ghost use Rattle.qscript_text.specs.Reading.Operand.{plain_of, repeated_of, bytes_of, is_cross};
+ghost use Rattle.std.specs.Prelude.{◌≡◌, ◌<◌, ◌==◌, length, position, IfSome};
+ghost use Rattle.qscript_text.specs.Reading.Operand.{plain_of, repeated_of, bytes_of};
 ghost use Rattle.qscript_text.specs.Reading.Steps.{Gives};
 
 use crate::fault::{LineFault, ParseError};
@@ -47,7 +47,7 @@ fn repeated_bytes(alloc: Global, count: &[u8], pair: &[u8]) -> Result<Bytes, Par
 
 /// Returns the index of the first `x`.
 fn cross(word: &[u8]) -> Option<usize>
-    ensures place { result ≡ position is_cross word.now }
+    ensures place { result ≡ position (λ b. b == 120) word.now }
     ensures within { IfSome result (λ at. at < length word.now) }
 {
     word.iter().position(|b| *b == b'x')

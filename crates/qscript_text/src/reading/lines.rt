@@ -2,11 +2,11 @@
 
 ghost use Rattle.std.specs.Prelude.{◌≡◌, ◌+◌, ◌<◌, ◌≤◌, [], ◌∷◌, drop, length, position, MatchOption, IfSome};
 ghost use Rattle.std.specs.List.{position_or_len};
-ghost use Rattle.qscript_text.specs.Reading.Lines.{lines_of, is_newline, without_return};
+ghost use Rattle.qscript_text.specs.Reading.Lines.{lines_of, is_newline, without_last};
 
 /// Returns a line without the carriage return at its end. Only one carriage return is removed.
 fn trim_return(line: &[u8]) -> &[u8]
-    ensures { result.now ≡ without_return line.now }
+    ensures { result.now ≡ without_last 13 line.now }
 {
     match line {
         [front @ .., b'\r'] => front,

@@ -1,9 +1,9 @@
 -- The laws of ConnectDetach.
-use Rattle.qrules.proofs.Common.{arith, ◌≡◌, ◌⊎◌, ℕ, [], ap, sym, true, is_over, cancels, deliver, refusal_if_full_for}
+use Rattle.qrules.proofs.Common.{arith, ◌≡◌, ◌⊎◌, ℕ, [], ap, sym, true, is_over, deliver, cancel_where}
 use Rattle.qrules.proofs.Common.{tells_disconnect, disconnect_item, option_or, Badf, is_pulse, Connection, row_of}
 use Rattle.qrules.proofs.Common.{disconnect_pulse, OpenChannel, SentItem, ConnectDetach, Completion, Option, None, Some}
 use Rattle.qrules.proofs.Common.{is_some}
-use Rattle.qrules.proofs.Words.Items.{ends_receiver}
+use Rattle.qrules.proofs.Words.Items.{refusal_if_full_for, ends_receiver}
 use Rattle.qrules.proofs.Traces.Parts.{due_pulse_over}
 use Rattle.qrules.proofs.Words.Facts.{Facts}
 use Rattle.qrules.proofs.Traces.Calls.Cancelling.{IsCancelledCall}
@@ -38,7 +38,7 @@ own_passes f t k r = grind arith
 
 -- the completion of another thread's call
 abbrev other_completion : Facts → ℕ → Option SentItem → ℕ → Option Completion
-other_completion f k m u = option_or (cancels f (λ v. is_over k) Badf u) (deliver f m [] u)
+other_completion f k m u = option_or (cancel_where (is_over k) Badf u (f.open_call u)) (deliver f m [] u)
 
 -- another thread's call that completes is cancelled, or takes the pulse
 pub detach_ends : (f : Facts) (k : ℕ) (o : Option SentItem) (u : ℕ) (y : Completion)

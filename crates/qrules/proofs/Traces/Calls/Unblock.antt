@@ -1,8 +1,8 @@
 -- The laws of Unblock.
-use Rattle.qrules.proofs.Common.{arith, ◌≡◌, ℕ, ap, sym, eqb, Bool, true, false, unblock_pulse, guards, tells_unblock}
-use Rattle.qrules.proofs.Common.{Send, is_pulse, row_of, OpenChannel, SentItem, refusal_if_full_for, Unblock, OpenCall}
+use Rattle.qrules.proofs.Common.{arith, ◌≡◌, ℕ, ap, sym, eqb, Bool, true, false, unblock_pulse, tells_unblock}
+use Rattle.qrules.proofs.Common.{Send, is_pulse, row_of, OpenChannel, SentItem, Unblock, OpenCall}
 use Rattle.qrules.proofs.Common.{Receipt, Option, None, Some, is_some, not, ◌&&◌}
-use Rattle.qrules.proofs.Words.Items.{unblock_item}
+use Rattle.qrules.proofs.Words.Items.{guards, refusal_if_full_for, unblock_item}
 use Rattle.qrules.proofs.Traces.Parts.{due_pulse_of_open}
 use Rattle.qrules.proofs.Words.Facts.{Facts}
 use Rattle.qmodel.specs.declared.open_call.OpenSend.{OpenSend}

@@ -5,7 +5,7 @@ use Rattle.qrules.proofs.Common.{Member, Outcome, row_of, is_on, Trace, Call, Co
 use Rattle.qrules.proofs.Common.{is_some, not, ◌&&◌}
 use Rattle.std.proofs.lemmas.Bool.{eq-eqb, ne_eqb, true≢false, or_parts, false_from_ne_true}
 use Rattle.qrules.proofs.Basics.{Facts, threads_of, number_of, is_for_answer, facts_of, IsLawful, with_event}
-use Rattle.qrules.proofs.Basics.{has_completion_of, is_ended, is_received, open_call, priority_of_item, copied_count_of}
+use Rattle.qrules.proofs.Basics.{completes, is_ended, is_received, open_call, priority_of_item, copied_count_of}
 use Rattle.qrules.proofs.Basics.{sender_of, filled, with_receipt, is_cancelled, uncancelled_items, ends_other}
 use Rattle.qrules.proofs.Basics.{open_known, passes_of, IsPending, item_at, item_message, IsSettled, is_settled}
 use Rattle.qrules.proofs.Basics.{block_fresh, filled_answer, filled_settled, open_from, open_parts, open_thread}
@@ -104,7 +104,7 @@ unread_elsewhere roster past h i s waiting v is number differs = grind (arith, u
 ends_sent : (roster : List Member) (past : Trace) (t : ℕ) (c : Call) (X : List Completion) (h : ℕ) (item : Item)
     → IsLawful roster past → Outcome true (facts_of roster past) t c X → IsPending roster past h item
     → is_pulse item.what ≡ false
-    → has_completion_of X item.number ≡ is_cancelled (facts_of roster past) t c h item.number
+    → completes X item.number ≡ is_cancelled (facts_of roster past) t c h item.number
 ends_sent roster past t c X h item l a p message =
     let f = facts_of roster past in
     let s = sent_by roster past h item l p message in
@@ -112,7 +112,7 @@ ends_sent roster past t c X h item l a p message =
     ne_eqb s.sender t
     (λ same. none-some s.waiting (sym (passes_of f t c X a).idle ∙ ap (open_call roster past) (sym same)
     ∙ s.is_open)) in
-    let ended : has_completion_of X (number_of s.waiting) ≡ is_some ((row_of f t c).others s.sender) =
+    let ended : completes X (number_of s.waiting) ≡ is_some ((row_of f t c).others s.sender) =
     ends_other roster past t c X s.sender s.waiting l a other s.is_open in
     let number : eqb (number_of s.waiting) item.number ≡ true = eq-eqb _ _ s.number in
     let cancel : is_cancelled f t c h item.number ≡ is_some ((row_of f t c).others s.sender) =
@@ -122,7 +122,7 @@ ends_sent roster past t c X h item l a p message =
     ap (λ b. b && is_some ((row_of f t c).others v))
     (unread_elsewhere roster past h item.number s.sender s.waiting v s.is_open s.number differs))
     ∙ rw (s.is_open, number, s.unread, s.on) refl in
-    ap (has_completion_of X) (sym s.number) ∙ ended ∙ sym cancel
+    ap (completes X) (sym s.number) ∙ ended ∙ sym cancel
 
 -- no open Send has the number of a pulse
 pub pulse_unread : (roster : List Member) (past : Trace) (h : ℕ) (item : Item) (v : ℕ) → IsPending roster past h item

@@ -8,7 +8,7 @@ use Rattle.qrules.proofs.Common.{Completion, OpenCall, None, Some, is_some}
 use Rattle.std.proofs.lemmas.Bool.{eq-eqb, ne_eqb}
 use Rattle.qrules.proofs.Words.Facts.{Facts, threads_of, number_of}
 use Rattle.qrules.proofs.Words.Lawful.{facts_of, IsLawful}
-use Rattle.qrules.proofs.Words.Past.{has_completion_of, refuses, is_ended, open_call, block}
+use Rattle.qrules.proofs.Words.Past.{completes, refuses, is_ended, open_call, block}
 use Rattle.qrules.proofs.Traces.Past.Laws.{Passes, RowLaws, IsOwn, IsOfOpen}
 use Rattle.qrules.proofs.Traces.Calls.{row_laws}
 use Rattle.qrules.proofs.Traces.Past.Numbers.{block_cases}
@@ -21,10 +21,10 @@ pub row_passes : (f : Facts) (t : ℕ) (c : Call) → refusal_of f t c ≡ None 
 row_passes f t c e = grind arith
 
 pub passes_of : (f : Facts) (t : ℕ) (c : Call) (X : List Completion) → Outcome true f t c X → Passes f t c
-passes_of f t c X a = row_passes f t c a.0
+passes_of f t c X a = row_passes f t c a.no_refusal
 
 pub laws_of : (f : Facts) (t : ℕ) (c : Call) (X : List Completion) → Outcome true f t c X → RowLaws f t c
-laws_of f t c X a = row_laws f t c (row_passes f t c a.0)
+laws_of f t c X a = row_laws f t c (row_passes f t c a.no_refusal)
 
 -- ---- each completion is of the call itself, or of its thread's open call
 
@@ -52,7 +52,7 @@ other_below roster past v y h = let below : (number_of h.waiting) ≤ length pas
 pub accepted : (roster : List Member) (past : Trace) (t : ℕ) (c : Call) (X : List Completion)
     → Outcome true (facts_of roster past) t c X → refuses X (length past + 1) ≡ false
 accepted roster past t c X a =
-    rw (a.1) (any_filter_map _ (completion_to (facts_of roster past) t c) (threads_of roster) (λ v y e.
+    rw (a.by_row) (any_filter_map _ (completion_to (facts_of roster past) t c) (threads_of roster) (λ v y e.
     grind (
       arith,
       completion_names (facts_of roster past) t c v y (laws_of (facts_of roster past) t c X a) e,
@@ -61,19 +61,19 @@ accepted roster past t c X a =
 
 pub refused : (roster : List Member) (past : Trace) (t : ℕ) (c : Call) (X : List Completion)
     → Outcome false (facts_of roster past) t c X → refuses X (length past + 1) ≡ true
-refused roster past t c X a = rw (a.2, eqb_same (length past + 1)) refl
+refused roster past t c X a = rw (a.only, eqb_same (length past + 1)) refl
 
 -- the completions of a call that fails complete no earlier call
 pub refused_ends : (roster : List Member) (past : Trace) (t : ℕ) (c : Call) (X : List Completion) (i : ℕ)
-    → Outcome false (facts_of roster past) t c X → i ≢ length past + 1 → has_completion_of X i ≡ false
+    → Outcome false (facts_of roster past) t c X → i ≢ length past + 1 → completes X i ≡ false
 refused_ends roster past t c X i a other = let e : eqb (length past + 1) i ≡ false =
-    ne_eqb _ _ (λ same. other (sym same)) in rw (a.2, e) refl
+    ne_eqb _ _ (λ same. other (sym same)) in rw (a.only, e) refl
 
 -- a completion names this call or an earlier one
 pub names_below : (roster : List Member) (past : Trace) (t : ℕ) (c : Call) (X : List Completion) (i : ℕ)
-    → Answers (facts_of roster past) t c X → length past + 1 < i → has_completion_of X i ≡ false
+    → Answers (facts_of roster past) t c X → length past + 1 < i → completes X i ≡ false
 names_below roster past t c X i a l = elim a [
-  | inl a ↦ rw (a.1) (any_filter_map _ (completion_to (facts_of roster past) t c) (threads_of roster) (λ v y e.
+  | inl a ↦ rw (a.by_row) (any_filter_map _ (completion_to (facts_of roster past) t c) (threads_of roster) (λ v y e.
       grind (
         arith,
         completion_names (facts_of roster past) t c v y (laws_of (facts_of roster past) t c X a) e,
@@ -110,11 +110,11 @@ open_known roster past u o l is = let k = open_parts roster past u o is in block
 pub ends_other : (roster : List Member) (past : Trace) (t : ℕ) (c : Call) (X : List Completion) (u : ℕ) (o : OpenCall)
     → IsLawful roster past → Outcome true (facts_of roster past) t c X
     → eqb u t ≡ false → open_call roster past u ≡ Some o
-    → has_completion_of X (number_of o) ≡ is_some ((row_of (facts_of roster past) t c).others u)
+    → completes X (number_of o) ≡ is_some ((row_of (facts_of roster past) t c).others u)
 ends_other roster past t c X u o l a other is =
     let f = facts_of roster past in
     let laws = laws_of (facts_of roster past) t c X a in
-    rw (a.1) (
+    rw (a.by_row) (
     elim ((row_of f t c).others u)
     as (λ z. (row_of f t c).others u ≡ z
     → list_any (λ x. eqb x.call (number_of o)) (filter_map (completion_to f t c) (threads_of roster)) ≡ is_some z) [
@@ -136,11 +136,11 @@ ends_other roster past t c X u o l a other is =
 -- the call itself completes exactly if the row has a completion for it
 pub ends_own : (roster : List Member) (past : Trace) (t : ℕ) (c : Call) (X : List Completion)
     → is_some (member_at roster t) ≡ true → Outcome true (facts_of roster past) t c X
-    → has_completion_of X (length past + 1) ≡ is_some (row_of (facts_of roster past) t c).own
+    → completes X (length past + 1) ≡ is_some (row_of (facts_of roster past) t c).own
 ends_own roster past t c X member a =
     let f = facts_of roster past in
     let laws = laws_of (facts_of roster past) t c X a in
-    rw (a.1) (
+    rw (a.by_row) (
     elim ((row_of f t c).own)
     as (λ z. (row_of f t c).own ≡ z
     → list_any (λ x. eqb x.call (length past + 1)) (filter_map (completion_to f t c) (threads_of roster)) ≡ is_some z) [
@@ -156,7 +156,7 @@ pub not_ended : (roster : List Member) (past : Trace) (t : ℕ) (c : Call) (X : 
     → Answers (facts_of roster past) t c X → AllByRecursion (λ x. is_ended past x.call ≡ false) X
 not_ended roster past t c X l a = elim a [
   | inl a ↦
-      rw (a.1) (all_filter_map (λ x. is_ended past x.call ≡ false) (completion_to (facts_of roster past) t c)
+      rw (a.by_row) (all_filter_map (λ x. is_ended past x.call ≡ false) (completion_to (facts_of roster past) t c)
       (threads_of roster) (λ v y e.
       grind (
         arith,
@@ -164,5 +164,5 @@ not_ended roster past t c X l a = elim a [
         ended_below roster past y.call l,
         open_parts roster past v,
       )))
-  | inr a ↦ rw (a.2) (ended_below roster past (length past + 1) l (omega arith), tt)
+  | inr a ↦ rw (a.only) (ended_below roster past (length past + 1) l (omega arith), tt)
 ]

@@ -6,7 +6,7 @@ use Rattle.qrules.proofs.Common.{row_of, SentItem, Event, Trace, is_thread, Call
 use Rattle.qrules.proofs.Common.{none_of, channel_of, Option, None, Some, is_some, not, ◌||◌}
 use Rattle.std.proofs.lemmas.Bool.{cases_Bool, eqb-true, eqb-false, eq-eqb, ne_eqb, or_parts}
 use Rattle.qrules.proofs.Basics.{receipt_of, sender_for, Received, buffer_after_write, Facts, sender, threads_of}
-use Rattle.qrules.proofs.Basics.{number_of, facts_of, IsLawful, with_event, refuses, has_completion_of, is_ended}
+use Rattle.qrules.proofs.Basics.{number_of, facts_of, IsLawful, with_event, refuses, completes, is_ended}
 use Rattle.qrules.proofs.Basics.{is_received, item_of, copied_count_of, priority_of_item, unless_ended, open_call}
 use Rattle.qrules.proofs.Basics.{unblocked_among, block, with_receipt, filled, asks, makes, unblocks, writes}
 use Rattle.qrules.proofs.Basics.{after_receipt, after_unblock, after_write, unless, open_call_after, sets_alone}
@@ -294,14 +294,14 @@ open_other roster past t c X u l member a other =
           elim (is_ended past (number_of b))
           as (λ d. is_ended past (number_of b) ≡ d
           → option_map (kept roster (with_event t c X past))
-          (cond (has_completion_of X (number_of b) || d) None (Some b))
+          (cond (completes X (number_of b) || d) None (Some b))
           ≡ unless (is_some (R.others u))
           (other_after (facts_of roster past) t c u (option_map (kept roster past) (cond d None (Some b))))) [
-            | true ↦ λ gone. rw (or-true (has_completion_of X (number_of b))) (sym nothing)
+            | true ↦ λ gone. rw (or-true (completes X (number_of b))) (sym nothing)
             | false ↦ λ going.
                 let below : (number_of b) ≤ length past = block_below roster past u b e in
-                let ended : has_completion_of X (number_of b) ≡ is_some (R.others u) =
-                ap (has_completion_of X) (sym (kept_number roster past b))
+                let ended : completes X (number_of b) ≡ is_some (R.others u) =
+                ap (completes X) (sym (kept_number roster past b))
                 ∙ ends_other roster past t c X u (kept roster past b) l a other (open_from roster past u b e going) in
                 let receipt : copied_count_of (with_event t c X past) (number_of b) ≡ option_or
                 (copied_by (receipt_of (facts_of roster past) t c) (number_of b))
@@ -351,7 +351,7 @@ open_other roster past t c X u l member a other =
                 (kept_number roster past b)
                 (λ x is. written_sender roster past t c X u (kept roster past b) x a waits is
                 ∙ ap (eqb x.rcvid) (kept_number roster past b)))) in
-                rw (or-false (has_completion_of X (number_of b)), ended) (
+                rw (or-false (completes X (number_of b)), ended) (
                 elim (is_some (R.others u))
                 as (λ d. option_map (kept roster (with_event t c X past)) (cond d None (Some b)) ≡ unless d
                 (other_after (facts_of roster past) t c u (Some (kept roster past b)))) [ true ↦ refl | false ↦ now ])

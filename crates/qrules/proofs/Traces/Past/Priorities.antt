@@ -104,7 +104,7 @@ module _ (roster : List Member) (past : Trace) (t : ℕ) (c : Call) (X : List Co
 
   given_accepted : first_among (priority_from_completion carries u) X ≡ priority_taken (facts_of roster past)
       (receipt_of (facts_of roster past) t c) u
-  given_accepted = ap (first_among (priority_from_completion carries u)) (a.1)
+  given_accepted = ap (first_among (priority_from_completion carries u)) (a.by_row)
       ∙ by (priority_taken (facts_of roster past) (receipt_of (facts_of roster past) t c) u) refl where
         by : (o : Option ℕ) → priority_taken (facts_of roster past) (receipt_of (facts_of roster past) t c) u ≡ o
             → first_among (priority_from_completion carries u)

@@ -2,7 +2,7 @@
 use Rattle.qrules.proofs.Common.{◌≡◌, ℕ, ◌+◌, ◌<◌, ◌≤◌, List, [], ◌∷◌, length, refl, ap, sym, ◌∙◌, cond, arith, true}
 use Rattle.qrules.proofs.Common.{false, eqb, ◌⊎◌, inl, inr, filter_map, best_of, Item, Kind, best-at, member_at, Member}
 use Rattle.qrules.proofs.Common.{completion_to, Outcome, Answers, Trace, Call, Completion, is_among, ReceivedItem}
-use Rattle.qrules.proofs.Common.{Option, None, Some, is_some}
+use Rattle.qrules.proofs.Common.{Option, None, Some, is_some, eqb-true, row_of, subst}
 use Rattle.std.proofs.lemmas.Bool.{ne_eqb, true≢false}
 use Rattle.qrules.proofs.Basics.{receipt_of, Received, item_in, Facts, threads_of, facts_of, IsLawful, copied_count_in}
 use Rattle.qrules.proofs.Basics.{first_among, priority_of_item, copied_count_among, copied_count_of, RowLaws, IsReceipt}
@@ -32,7 +32,13 @@ among_one tell g (u ∷ us) k h v z m e q =
 
 pub completion_receives : (f : Facts) (t : ℕ) (c : Call) (v : ℕ) (y : Completion) (p : ReceivedItem) → RowLaws f t c
     → completion_to f t c v ≡ Some y → item_in y.mark ≡ Some p → IsReceipt (receipt_of f t c) v p
-completion_receives f t c v y p laws e m = grind arith
+completion_receives f t c v y p laws e m =
+    elim (eqb v t) as (λ b. eqb v t ≡ b → cond b (row_of f t c).own ((row_of f t c).others v) ≡ Some y
+    → IsReceipt (receipt_of f t c) v p) [
+      | true ↦ λ same own. subst (λ u. IsReceipt (receipt_of f t c) u p) (sym (eqb-true v t same))
+          (laws.own_receives y p own m)
+      | false ↦ λ other ends. laws.ends_receives v y p ends m
+    ] refl e
 
 -- how many bytes of item i this receipt copies, if it is of item i
 abbrev pub copied_by : Option Received → ℕ → Option ℕ
@@ -72,7 +78,7 @@ accepted_receipts roster past t c X i l member a =
     let copies =
     λ (v : ℕ) (y : Completion) (e : completion_to (facts_of roster past) t c v ≡ Some y). completion_copies
     (facts_of roster past) t c v y i laws e in
-    rw (a.1) (
+    rw (a.by_row) (
     elim ((receipt_of f t c))
     as (λ o. (receipt_of f t c) ≡ o → copied_count_among (filter_map (completion_to f t c) (threads_of roster)) i
     ≡ copied_by o i) [
@@ -100,7 +106,7 @@ accepted_receipts roster past t c X i l member a =
 -- a call that fails receives nothing
 pub refused_receipts : (f : Facts) (t : ℕ) (c : Call) (X : List Completion) (i : ℕ) → Outcome false f t c X
     → copied_count_among X i ≡ None
-refused_receipts f t c X i a = rw (a.2) refl
+refused_receipts f t c X i a = rw (a.only) refl
 
 -- ---- the item of a receipt
 

@@ -1,7 +1,7 @@
 -- The thread whose open call is the Send of a number.
 use Rattle.qrules.proofs.Common.{arith, ◌≡◌, ℕ, List, [], ◌∷◌, sym, true, sender_among, none-some, OpenCall, is_among}
-use Rattle.qrules.proofs.Common.{Option, Some}
-use Rattle.std.proofs.lemmas.Bool.{eq-eqb, and_from, true≢false}
+use Rattle.qrules.proofs.Common.{None, Option, Receive, Send, Some, eqb-true, refl}
+use Rattle.std.proofs.lemmas.Bool.{eq-eqb, true≢false}
 use Rattle.qrules.proofs.Words.Facts.{is_send, number_of, is_for_answer}
 
 -- the open call is the Send of number i
@@ -12,10 +12,14 @@ pub record Sends (i : ℕ) (o : Option OpenCall) : Type 0 where
   pub answer : is_for_answer waiting ≡ true
 
 pub send_parts : (i : ℕ) (o : Option OpenCall) → is_send i o ≡ true → Sends i o
-send_parts i o e = grind arith
+send_parts i None e = absurd (true≢false (sym e))
+send_parts i (Some (Send s)) e =
+    record { waiting = Send s; is = refl; number = eqb-true s.number i e; answer = refl }
+send_parts i (Some (Receive r)) e = absurd (true≢false (sym e))
 
 pub send_from : (i : ℕ) (o : OpenCall) → number_of o ≡ i → is_for_answer o ≡ true → is_send i (Some o) ≡ true
-send_from i o number answer = and_from _ _ (eq-eqb (number_of o) i number) answer
+send_from i (Send s) number answer = eq-eqb s.number i number
+send_from i (Receive r) number answer = absurd (true≢false (sym answer))
 
 -- the open call of the sender that is found is the Send of that number
 pub sender_sends : (open_call : ℕ → Option OpenCall) (i : ℕ) (us : List ℕ) (s : ℕ)

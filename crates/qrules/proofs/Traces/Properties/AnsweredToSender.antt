@@ -1,15 +1,15 @@
 -- A message gets at most one reply, by a call that may reply to it, and its sender gets this reply.
 use Rattle.qrules.proofs.Common.{◌≡◌, ◌≢◌, ◌∙◌, ℕ, ◌+◌, ◌<◌, List, [], ◌∷◌, refl, ap, sym, subst, arith, cond, eqb}
 use Rattle.qrules.proofs.Common.{Bool, true, false, inl, inr, is_some, is_answer, items, AnsweredToSender, AnswersIts}
-use Rattle.qrules.proofs.Common.{AnswersOnce, AllByRecursion, filter_map, cons_option, option_map_or, none-some, Member}
+use Rattle.qrules.proofs.Common.{AllByRecursion, filter_map, cons_option, option_map_or, none-some, Member}
 use Rattle.qrules.proofs.Common.{IsRoster, completion_to, Outcome, Answers, item_among, Event, SentItem, Trace}
 use Rattle.qrules.proofs.Common.{Completion, all_filter_map, all_more, is_among, is_on, Option, None, Some, not, ◌&&◌}
-use Rattle.qrules.proofs.Common.{count_by}
+use Rattle.qrules.proofs.Common.{count_by, effect_of}
 use Rattle.std.proofs.lemmas.Bool.{and_from, cases_Bool, ne_eqb, eq-eqb, eqb-true, eqb-false, true≢false}
 use Rattle.std.proofs.lemmas.List.Sums.{sum_by-cons}
 use Rattle.qrules.proofs.Basics.{is_for_answer, owns, threads_of, number_of, facts_of, IsLawful, is_ended, is_received}
 use Rattle.qrules.proofs.Basics.{sender_of, open_known, passes_of, item_found, known, open_receipt, buffer_answer}
-use Rattle.qrules.proofs.Basics.{held_for_answer, open_parts, held_on, buffer_on}
+use Rattle.qrules.proofs.Basics.{held_for_answer, is_accepted, open_parts, held_on, buffer_on}
 use Rattle.qrules.proofs.Traces.Properties.Answers.{AnswersHeld, answers_held, answers_one}
 use Rattle.qrules.proofs.Traces.Properties.Events.{is_accepted_by, outcome_of}
 use Rattle.qrules.proofs.Traces.Properties.ReceivedOnce.{different_calls}
@@ -58,13 +58,13 @@ each_answers_its : (roster : List Member) (past : Trace) (e : Event) → IsLawfu
     → Answers (facts_of roster past) e.thread e.call e.completions
     → AllByRecursion (λ x. is_answer x.mark ≡ true → AnswersIts roster past e x) e.completions
 each_answers_its roster past e l a = elim a [
-  | inl a ↦ subst (AllByRecursion (λ x. is_answer x.mark ≡ true → AnswersIts roster past e x)) (sym a.1)
+  | inl a ↦ subst (AllByRecursion (λ x. is_answer x.mark ≡ true → AnswersIts roster past e x)) (sym a.by_row)
       (all_filter_map (λ x. is_answer x.mark ≡ true → AnswersIts roster past e x)
       (completion_to (facts_of roster past) e.thread e.call) (threads_of roster) (λ u y is answers.
       answers_its roster past e u y l a
       (answers_held (facts_of roster past) e.thread e.call u y
       (passes_of (facts_of roster past) e.thread e.call e.completions a) is answers)))
-  | inr a ↦ subst (AllByRecursion (λ x. is_answer x.mark ≡ true → AnswersIts roster past e x)) (sym a.2) (
+  | inr a ↦ subst (AllByRecursion (λ x. is_answer x.mark ≡ true → AnswersIts roster past e x)) (sym a.only) (
     (λ answers. absurd (true≢false (sym answers))),
     tt,
   )
@@ -112,6 +112,11 @@ count_one {Y} p g (m ∷ roster) u y r among is passes others =
           ] refl
     ]
 
+-- an accepted call that replies to a message causes exactly one completion of that message's Send
+abbrev AnswersOnce : Trace → Event → Type 0
+AnswersOnce past e = (i : ℕ) → (effect_of e.call).answers ≡ Some i → is_accepted e past ≡ true
+    → count_by (λ x. eqb x.call i) e.completions ≡ 1
+
 answers_once : (roster : List Member) (past : Trace) (e : Event) → IsRoster roster → IsLawful roster past
     → Answers (facts_of roster past) e.thread e.call e.completions → AnswersOnce past e
 answers_once roster past e r l a i answered was =
@@ -123,7 +128,7 @@ answers_once roster past e r l a i answered was =
     ne_eqb k.thread e.thread
     (λ same. none-some k.waiting (sym p.idle ∙ ap (λ t. f.open_call t) (sym same) ∙ k.is_open)) in
     let given : completion_to f e.thread e.call k.thread ≡ Some k.given = rw other k.is in
-    rw (o.1) (count_one (λ x. eqb x.call i) (completion_to f e.thread e.call) roster k.thread k.given r
+    rw (o.by_row) (count_one (λ x. eqb x.call i) (completion_to f e.thread e.call) roster k.thread k.given r
     (known roster k.thread (open_known roster past k.thread k.waiting l k.is_open))
     given
     (eq-eqb k.given.call i k.call)

@@ -2,8 +2,8 @@
 -- connections.
 use Rattle.qrules.proofs.Common.{arith, ◌≡◌, ◌∙◌, ℕ, ◌+◌, List, [], ◌∷◌, length, ap, sym, subst, cond, eqb, true, false}
 use Rattle.qrules.proofs.Common.{connection_of, takeable, AllByRecursion, none-some, same_Some, Item, Connection}
-use Rattle.qrules.proofs.Common.{Member, call_at, effect_of, SentItem, Event, Trace, Call, all_append, all_more, Option}
-use Rattle.qrules.proofs.Common.{Some, is_some}
+use Rattle.qrules.proofs.Common.{Member, event_at, effect_of, SentItem, Event, Trace, Call, all_append, all_more}
+use Rattle.qrules.proofs.Common.{Option, Some, is_some}
 use Rattle.std.specs.Option.{option_and_then, option_map, option_or}
 use Rattle.qrules.proofs.Basics.{makes, item_of, pending_items, priority_before, attached_connection, made_on}
 use Rattle.qrules.proofs.Basics.{message_numbered, pulse_item, item_sent_over, before_earlier, before_newest}
@@ -77,7 +77,7 @@ pub item_over : (roster : List Member) (past : Trace) (i k : ℕ) (m : SentItem)
 item_over roster [] i k m is over = absurd (none-some m is)
 item_over roster (e ∷ past) i k m is over =
     elim (eqb i (length past + 1)) as (λ b. cond b (item_of roster e past) (item_at roster past i) ≡ Some m
-    → option_and_then sends_over (cond b (Some e.call) (call_at past i)) ≡ Some k
+    → option_and_then sends_over (option_map (λ (x : Event). x.call) (cond b (Some e) (event_at past i))) ≡ Some k
     → IsOver (attached_connection roster (e ∷ past)) k m) [
       | true ↦ λ at by.
           let w = makes_over (facts_of roster past) e.thread e.call m k (item_accepted roster e past m at).1 by in

@@ -27,7 +27,7 @@ use Rattle.qrules.proofs.Traces.Calls.Unblock.{is_cancelled}
 use Rattle.qmodel.specs.declared.open_call.OpenCall.TheVariants.{Receive as InReceive, Send as InSend}
 use Rattle.qrules.specs.Rules.Connections as connect_detach
 use Rattle.qrules.specs.Rules.Unblock as unblock
-use Rattle.qrules.specs.Rules.Pulse as pulse
+use Rattle.qrules.proofs.Words.Made.{pulse_over}
 use Rattle.qrules.proofs.Traces.Calls.ConnectDetach as detaching
 use Rattle.qrules.proofs.Traces.Calls.Unblock as unblocking
 
@@ -214,7 +214,7 @@ ends_copied roster past t (Send coid sent reply_buffer) X u y p e =
     (message_item (facts_of roster past) t) sent u y
     (sym (sent_same (facts_of roster past) t coid sent reply_buffer u p.row) ∙ e))
 ends_copied roster past t (Pulse coid level code value) X u y p e =
-    let o = pulse.pulse_over (facts_of roster past) coid level code value in
+    let o = pulse_over (facts_of roster past) coid level code value in
     told_now roster past t (Pulse coid level code value) X u y o refl
     (λ m is. sent_is_pulse (facts_of roster past) coid level code value m is)
     (told_meets (facts_of roster past) o u y (sym (pulse_same (facts_of roster past) o u) ∙ e))
@@ -253,11 +253,11 @@ all_copied : (roster : List Member) (past : Trace) (t : ℕ) (c : Call) (X : Lis
     → Answers (facts_of roster past) t c X
     → AllByRecursion (λ x. IsCopied past (event t c X) x x.mark) X
 all_copied roster past t c X l a = elim a [
-  | inl a ↦ subst (AllByRecursion (λ x. IsCopied past (event t c X) x x.mark)) (sym a.1)
+  | inl a ↦ subst (AllByRecursion (λ x. IsCopied past (event t c X) x x.mark)) (sym a.by_row)
       (all_filter_map (λ x. IsCopied past (event t c X) x x.mark) (completion_to (facts_of roster past) t c)
       (threads_of roster)
       (λ u y e. completion_copied roster past t c X u y l (passes_of (facts_of roster past) t c X a) e))
-  | inr a ↦ subst (AllByRecursion (λ x. IsCopied past (event t c X) x x.mark)) (sym a.2) (
+  | inr a ↦ subst (AllByRecursion (λ x. IsCopied past (event t c X) x x.mark)) (sym a.only) (
     refused_buffer roster past t c X l (refused roster past t c X a),
     tt,
   )

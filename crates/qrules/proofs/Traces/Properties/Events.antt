@@ -36,7 +36,7 @@ each_taken : (P : Completion → ℕ → Type 0) (f : Facts) (t : ℕ) (c : Call
     → ((u : ℕ) (y : Completion) (i : ℕ) → TakesOne f t c u y i → P y i)
     → AllByRecursion (λ x. (i : ℕ) → number_received x ≡ Some i → P x i) X
 each_taken P f t c X a h =
-    rw (a.1) (all_filter_map (λ x. (i : ℕ) → number_received x ≡ Some i → P x i) (completion_to f t c)
+    rw (a.by_row) (all_filter_map (λ x. (i : ℕ) → number_received x ≡ Some i → P x i) (completion_to f t c)
     (threads_of f.roster) (λ u y e i received_i.
     let p = receives_it y i received_i in
     subst (P y) p.2 (h u y p.0.number (takes_one f t c u y p.0 (passes_of f t c X a).row e p.1))))
@@ -49,5 +49,5 @@ pub each_received : (P : Completion → ℕ → Type 0) (roster : List Member) (
     → AllByRecursion (λ x. (i : ℕ) → number_received x ≡ Some i → P x i) X
 each_received P roster past t c X a h = elim a [
   | inl a ↦ each_taken P (facts_of roster past) t c X a (λ u y i k. h u y i a k)
-  | inr a ↦ rw (a.2) ((λ i e. absurd (none-some i e)), tt)
+  | inr a ↦ rw (a.only) ((λ i e. absurd (none-some i e)), tt)
 ]

@@ -7,7 +7,7 @@ use Rattle.qrules.proofs.Common.{OpenCall, Receipt, eqb_same, channel_of, buffer
 use Rattle.std.specs.Option.{option_and_then, option_map_or}
 use Rattle.std.proofs.lemmas.Bool.{eqb-true, or_parts, and_parts}
 use Rattle.qrules.proofs.Basics.{message_same, is_for_answer, message, sender, threads_of, is_send, Facts, number_of}
-use Rattle.qrules.proofs.Basics.{facts_of, IsLawful, has_completion_of, is_ended, item_of, open_call, with_writes}
+use Rattle.qrules.proofs.Basics.{facts_of, IsLawful, completes, is_ended, item_of, open_call, with_writes}
 use Rattle.qrules.proofs.Basics.{block, filled, asks, makes, open_known, passes_of, item_accepted, IsPending, item_at}
 use Rattle.qrules.proofs.Basics.{blocks, blocks_thread, block_asked, call_laws, send_from, send_parts, sender_found}
 use Rattle.qrules.proofs.Basics.{known, open_from, filled_answer, open_parts, open_thread, receipt_for_answer, kept}
@@ -140,7 +140,7 @@ item_waits roster (e ∷ past) i m l is message going =
           }
       | false ↦ λ other at.
           let before : is_ended past i ≡ false =
-          (or_parts (has_completion_of e.completions i) (is_ended past i) going).1 in
+          (or_parts (completes e.completions i) (is_ended past i) going).1 in
           let k = item_waits roster past i m l.0 at message before in
           record {
             thread = k.thread;

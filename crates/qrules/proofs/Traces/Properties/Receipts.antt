@@ -11,7 +11,7 @@ use Rattle.qmodel.specs.declared.call.Call.TheVariants.{Send, Receive, ReceivePu
 use Rattle.qmodel.specs.declared.open_call.OpenCall.TheVariants.{Receive as InReceive, Send as InSend}
 use Rattle.qrules.proofs.Traces.Properties.Rows.Telling.{Tells, told_meets, unblock_ends}
 use Rattle.qrules.specs.Rules.Unblock as unblock
-use Rattle.qrules.specs.Rules.Pulse as pulse
+use Rattle.qrules.proofs.Words.Made.{pulse_over}
 
 -- ---- the call of a completion
 
@@ -99,9 +99,9 @@ ends_takes f t (Send coid message reply_buffer) u y p r e m =
     (delivery_meets f (route f t coid) (message_item f t) message u y
     (sym (sent_same f t coid message reply_buffer u r) ∙ e)) (sent_way f t coid (message_item f t)) m
 ends_takes f t (Pulse coid level code value) u y p r e m =
-    takes_told f t (Pulse coid level code value) (pulse.pulse_over f coid level code value) u y p refl
-    (told_meets f (pulse.pulse_over f coid level code value) u y
-    (sym (pulse_same f (pulse.pulse_over f coid level code value) u) ∙ e)) m
+    takes_told f t (Pulse coid level code value) (pulse_over f coid level code value) u y p refl
+    (told_meets f (pulse_over f coid level code value) u y
+    (sym (pulse_same f (pulse_over f coid level code value) u) ∙ e)) m
 ends_takes f t c u y p r e m = grind arith
 
 -- each completion that receives an item takes it in one of these ways

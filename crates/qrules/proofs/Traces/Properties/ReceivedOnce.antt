@@ -6,7 +6,7 @@ use Rattle.qrules.proofs.Common.{completions_of, AllByRecursion, filter_map, con
 use Rattle.qrules.proofs.Common.{completion_to, Answers, Outcome, item_among, SentItem, Event, Trace, Call, Completion}
 use Rattle.qrules.proofs.Common.{all_append, all_map, all_more, Option, None, Some, is_some}
 use Rattle.std.proofs.lemmas.Bool.{or_parts, ne_eqb, eqb-false, true≢false}
-use Rattle.qrules.proofs.Basics.{Facts, threads_of, facts_of, IsLawful, has_completion_of, is_ended, is_received}
+use Rattle.qrules.proofs.Basics.{Facts, threads_of, facts_of, IsLawful, completes, is_ended, is_received}
 use Rattle.qrules.proofs.Basics.{copied_count_among, copied_count_of, completion_names, laws_of, not_ended, other_below}
 use Rattle.qrules.proofs.Basics.{IsPending, item_at, item_below, item_earlier, item_found, item_newest, call_laws}
 use Rattle.qrules.proofs.Basics.{open_thread}
@@ -47,7 +47,7 @@ different_calls roster past t c X a u v y z apart yis zis =
 event_calls : (roster : List Member) (past : Trace) (t : ℕ) (c : Call) (X : List Completion) → IsRoster roster
     → Answers (facts_of roster past) t c X → AllDifferent (map (λ x. x.call) X)
 event_calls roster past t c X r a = elim a [
-  | inl a ↦ rw (a.1, calls_as (filter_map (completion_to (facts_of roster past) t c) (threads_of roster)))
+  | inl a ↦ rw (a.by_row, calls_as (filter_map (completion_to (facts_of roster past) t c) (threads_of roster)))
       (different_kept (λ x. Some x.call) (completion_to (facts_of roster past) t c) roster r (λ u v i j less eu ev.
       option_and_then_some (λ (x : Completion). Some x.call) (completion_to (facts_of roster past) t c u) i eu
       (λ y yis yi.
@@ -55,10 +55,10 @@ event_calls roster past t c X r a = elim a [
       (λ z zis zj.
       subst (λ n. eqb n j ≡ false) (same_Some y.call i yi) (subst (λ n. eqb y.call n ≡ false) (same_Some z.call j zj)
       (different_calls roster past t c X a u v y z (λ same. omega arith) yis zis))))))
-  | inr a ↦ rw (a.2) (tt, tt)
+  | inr a ↦ rw (a.only) (tt, tt)
 ]
 
-none_ends : (X : List Completion) (i : ℕ) → has_completion_of X i ≡ false → IsNoneOf i (map (λ x. x.call) X)
+none_ends : (X : List Completion) (i : ℕ) → completes X i ≡ false → IsNoneOf i (map (λ x. x.call) X)
 none_ends [] i e = tt
 none_ends (x ∷ X) i e = let p = or_parts _ _ e in (eqb_flip x.call i p.0, none_ends X i p.1)
 
@@ -66,7 +66,7 @@ none_ends (x ∷ X) i e = let p = or_parts _ _ e in (eqb_flip x.call i p.0, none
 unended : (past : Trace) (i : ℕ) → is_ended past i ≡ false → IsNoneOf i (map (λ x. x.call) (completions_of past))
 unended [] i e = tt
 unended (e ∷ past) i is =
-    let p = or_parts (has_completion_of e.completions i) (is_ended past i) is in
+    let p = or_parts (completes e.completions i) (is_ended past i) is in
     rw (map-append (λ (x : Completion). x.call) e.completions (completions_of past))
     (all_append (λ m. eqb i m ≡ false) (map (λ x. x.call) e.completions) (map (λ x. x.call) (completions_of past))
     (none_ends e.completions i p.0) (unended past i p.1))
@@ -123,7 +123,7 @@ event_items : (roster : List Member) (past : Trace) (t : ℕ) (c : Call) (X : Li
     → Answers (facts_of roster past) t c X → AllDifferent (filter_map number_received X)
 event_items roster past t c X r a = elim a [
   | inl a ↦
-      rw (a.1) (different_kept number_received (completion_to (facts_of roster past) t c) roster r
+      rw (a.by_row) (different_kept number_received (completion_to (facts_of roster past) t c) roster r
       (λ u v i j less eu ev.
       let f = facts_of roster past in
       let laws = laws_of (facts_of roster past) t c X a in
@@ -134,7 +134,7 @@ event_items roster past t c X r a = elim a [
       let one : u ≡ v = sym first.by
       ∙ ap (λ q. q.by) (same_Some first.receipt second.receipt (sym first.is ∙ second.is)) ∙ second.by in
       absurd (omega arith)))))
-  | inr a ↦ rw (a.2) tt
+  | inr a ↦ rw (a.only) tt
 ]
 
 none_received : (X : List Completion) (i : ℕ) → is_some (copied_count_among X i) ≡ false

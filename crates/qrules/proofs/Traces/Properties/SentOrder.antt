@@ -4,7 +4,9 @@ use Rattle.qrules.proofs.Common.{◌≡◌, ◌∙◌, ℕ, ◌≤◌, List, [],
 use Rattle.qrules.proofs.Common.{connection_of, number_received, takeable, BestFirst, IsEarliest, SentOrder, TakesBest}
 use Rattle.qrules.proofs.Common.{TakesSent, Some, AllByRecursion, same_Some, best_of, may_take, IsRising, Item, Kind}
 use Rattle.qrules.proofs.Common.{Any, best-at, IsRoster, Member, ReceiveRequest, Event, Trace, Completion, all_more}
-use Rattle.qrules.proofs.Basics.{IsLawful, priority_before}
+use Rattle.qrules.proofs.Common.{Option, SentItem, item_among, items, option_map}
+use Rattle.qrules.proofs.Basics.{IsLawful, items_by_now, priority_before}
+use Rattle.qrules.proofs.Words.Past.{priority_of_made}
 use Rattle.qrules.proofs.Traces.Past.Best.{best_earliest, some_number}
 use Rattle.qrules.proofs.Traces.Past.Rising.{takeable_rises}
 use Rattle.qrules.proofs.Traces.Properties.BestFirst.{best_first}
@@ -25,10 +27,19 @@ first_of_equals kind items x rising best may =
     (λ w. w.priority ≡ x.priority → x.number ≤ w.number) items
     (best_earliest kind items x rising best) (λ w earliest same. earliest (may w) same)
 
+-- item j has this priority before the event
+abbrev IsOfPriority : List Member → Trace → Event → ℕ → ℕ → Type 0
+IsOfPriority roster past e j p =
+    option_map (λ (m : SentItem). m.item.priority) (item_among (items_by_now past (items roster (e ∷ past))) j) ≡ Some p
+
+priority_is : (o : Option SentItem) (p : ℕ) → option_map (λ (m : SentItem). m.item.priority) o ≡ Some p
+    → p ≡ priority_of_made o
+priority_is o p e = grind arith
+
 -- of the items that could be taken from one channel, none of this connection and priority is earlier
 abbrev IsEarliestOn : List Member → Trace → Event → ℕ → ℕ → ℕ → Type 0
 IsEarliestOn roster past e j k h =
-    AllByRecursion (λ w. connection_of (e ∷ past) w.number ≡ Some k → w.priority ≡ priority_before roster past e j
+    AllByRecursion (λ w. connection_of (e ∷ past) w.number ≡ Some k → IsOfPriority roster past e j w.priority
     → j ≤ w.number) (takeable roster past e h)
 
 is_earliest : (roster : List Member) (past : Trace) (e : Event) (y : Completion) (j k : ℕ) → TakesSent (e ∷ past) y j k
@@ -48,17 +59,17 @@ is_earliest roster past e y j k sent b h =
       | inl same ↦
           subst (IsEarliestOn roster past e j k) (sym same)
           (all_more (λ w. w.priority ≡ x.0.priority → x.0.number ≤ w.number)
-          (λ w. connection_of (e ∷ past) w.number ≡ Some k → w.priority ≡ priority_before roster past e j
-          → j ≤ w.number)
+          (λ w. connection_of (e ∷ past) w.number ≡ Some k → IsOfPriority roster past e j w.priority → j ≤ w.number)
           (takeable roster past e b.request.channel)
           (first_of_equals b.request.kind (takeable roster past e b.request.channel) x.0
           (takeable_rises roster e past b.request.channel) x.1
           (λ w. takes_any b.request sent.request w (sym b.call ∙ sent.call) sent.any))
-          (λ w first _ equal. let no_earlier : x.0.number ≤ w.number = first (equal ∙ priority) in omega (arith, x.2)))
+          (λ w first _ equal. let no_earlier : x.0.number ≤ w.number =
+          first (priority_is (item_among (items_by_now past (items roster (e ∷ past))) j) w.priority equal ∙ priority)
+          in omega (arith, x.2)))
       | inr other ↦
           all_more (IsMadeFor roster (e ∷ past) h)
-          (λ w. connection_of (e ∷ past) w.number ≡ Some k → w.priority ≡ priority_before roster past e j
-          → j ≤ w.number)
+          (λ w. connection_of (e ∷ past) w.number ≡ Some k → IsOfPriority roster past e j w.priority → j ≤ w.number)
           (takeable roster past e h) (takeable_made roster past e h)
           (λ w made along _.
           let to = item_over roster (e ∷ past) w.number k (record { item = made.0; channel = h }) made.1 along in

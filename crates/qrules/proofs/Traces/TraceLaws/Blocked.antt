@@ -6,7 +6,7 @@ use Rattle.qrules.proofs.Common.{member_at, IsRoster, Member, completion_to, row
 use Rattle.qrules.proofs.Common.{Completion, OpenCall, Transfer, channel_of, Option, Some, is_some, ◌||◌}
 use Rattle.std.proofs.lemmas.Bool.{cases_Bool, eqb-true, ne_eqb, true≢false}
 use Rattle.qrules.proofs.Basics.{receipt_of, Received, Facts, threads_of, asks, makes, facts_of, IsLawful}
-use Rattle.qrules.proofs.Basics.{has_completion_of, open_call, after_receipt, after_unblock, after_write}
+use Rattle.qrules.proofs.Basics.{completes, open_call, after_receipt, after_unblock, after_write}
 use Rattle.qrules.proofs.Basics.{open_call_after, unless, completion_names, ends_own, laws_of, open_known, passes_of}
 use Rattle.qrules.proofs.Basics.{Passes, waits_or_ends, Rises, rises, not_among, known}
 use Rattle.qrules.proofs.Traces.Past.OpenCalls.{open_accepted, open_refused}
@@ -34,11 +34,11 @@ pub completions_are_apart : (roster : List Member) (past : Trace) (e : Event) �
 completions_are_apart roster past e r l =
     let f = facts_of roster past in
     elim (l.1.1) [
-      | inl a ↦ subst AreApart (sym a.1)
+      | inl a ↦ subst AreApart (sym a.by_row)
           (apart_by (completion_to f e.thread e.call)
           (completion_thread f e.thread e.call (laws_of f e.thread e.call e.completions a)) (threads_of roster)
           (rises roster r))
-      | inr a ↦ subst AreApart (sym a.2) (refl, tt)
+      | inr a ↦ subst AreApart (sym a.only) (refl, tt)
     ]
 
 -- a call of thread u may complete in an event of thread t: u is t, or u is blocked
@@ -61,7 +61,7 @@ pub completions_go_to_blocked : (roster : List Member) (past : Trace) (e : Event
 completions_go_to_blocked roster past e r l =
     let f = facts_of roster past in
     elim (l.1.1) [
-      | inl a ↦ subst (AllByRecursion (GoesToBlocked roster past e.thread)) (sym a.1)
+      | inl a ↦ subst (AllByRecursion (GoesToBlocked roster past e.thread)) (sym a.by_row)
           (all_filter_map (GoesToBlocked roster past e.thread) (completion_to f e.thread e.call) (threads_of roster)
           (λ v y is.
           elim (completion_names f e.thread e.call v y (laws_of f e.thread e.call e.completions a) is) [
@@ -73,7 +73,7 @@ completions_go_to_blocked roster past e r l =
               may = rw (other.names.thread, ap is_some other.names.is) (or-true (eqb v e.thread));
             }
           ]))
-      | inr a ↦ subst (AllByRecursion (GoesToBlocked roster past e.thread)) (sym a.2) (
+      | inr a ↦ subst (AllByRecursion (GoesToBlocked roster past e.thread)) (sym a.only) (
         own_due roster past e.thread _ l.1.0 refl,
         tt,
       )
@@ -129,13 +129,13 @@ member_blocked roster past e l idle u member =
     elim (l.1.1) [
       | inl a ↦
           let got : gets e.completions u ≡ is_some (completion_to f t c u) =
-          rw (a.1) (gets_by (completion_to f t c) (completion_thread f t c (laws_of f t c e.completions a))
+          rw (a.by_row) (gets_by (completion_to f t c) (completion_thread f t c (laws_of f t c e.completions a))
           (threads_of roster) u (known roster u member)) in
           ap is_some (open_accepted roster past t c e.completions u l.0 l.1.0 a)
           ∙ accepted_blocked f t c u (passes_of f t c e.completions a)
           ∙ ap (λ b. cond b false (may_end roster past t u)) (sym got)
       | inr a ↦ ap is_some (open_refused roster past t c e.completions u a)
-          ∙ rw (a.2) (refused_blocked (open_call roster past u) (open_call roster past t) t u
+          ∙ rw (a.only) (refused_blocked (open_call roster past u) (open_call roster past t) t u
           (λ s. ap (open_call roster past) (eqb-true u t s)) idle)
     ]
 
@@ -157,7 +157,7 @@ blocked_unless_ended roster past e r l idle u = elim (cases_Bool (is_some (membe
 -- ---- the event's own call
 
 pub caller_gets_its_own : (roster : List Member) (past : Trace) (e : Event) → IsRoster roster
-    → IsLawful roster (e ∷ past) → gets e.completions e.thread ≡ has_completion_of e.completions (length past + 1)
+    → IsLawful roster (e ∷ past) → gets e.completions e.thread ≡ completes e.completions (length past + 1)
 caller_gets_its_own roster past e r l =
     let f = facts_of roster past in
     let t = e.thread in
@@ -165,8 +165,8 @@ caller_gets_its_own roster past e r l =
     elim (l.1.1) [
       | inl a ↦
           let got : gets e.completions t ≡ is_some (completion_to f t c t) =
-          rw (a.1) (gets_by (completion_to f t c) (completion_thread f t c (laws_of f t c e.completions a))
+          rw (a.by_row) (gets_by (completion_to f t c) (completion_thread f t c (laws_of f t c e.completions a))
           (threads_of roster) t (known roster t l.1.0)) in
           got ∙ rw (eqb_same t) refl ∙ sym (ends_own roster past t c e.completions l.1.0 a)
-      | inr a ↦ rw (a.2, eqb_same t, eqb_same (length past + 1)) refl
+      | inr a ↦ rw (a.only, eqb_same t, eqb_same (length past + 1)) refl
     ]

@@ -36,7 +36,7 @@ completions_name_own_calls roster past e r l =
     let f = facts_of roster past in
     let P = λ (x : Completion). thread_at (e ∷ past) x.call ≡ Some x.thread in
     elim (l.1.1) [
-      | inl a ↦ subst (AllByRecursion P) (sym a.1)
+      | inl a ↦ subst (AllByRecursion P) (sym a.by_row)
           (all_filter_map P (completion_to f e.thread e.call) (threads_of roster) (λ v y is.
           elim (completion_names f e.thread e.call v y (laws_of f e.thread e.call e.completions a) is) [
             | inl own ↦ ap (thread_at (e ∷ past)) own.names.call ∙ thread_newest e past ∙ ap Some (sym own.names.thread)
@@ -47,5 +47,5 @@ completions_name_own_calls roster past e r l =
                 ∙ thread_earlier e past (number_of k.block) (block_below roster past v k.block k.is)
                 ∙ block_of_thread roster past v k.block k.is ∙ ap Some (sym other.names.thread)
           ]))
-      | inr a ↦ subst (AllByRecursion P) (sym a.2) (thread_newest e past, tt)
+      | inr a ↦ subst (AllByRecursion P) (sym a.only) (thread_newest e past, tt)
     ]

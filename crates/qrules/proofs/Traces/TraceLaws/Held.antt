@@ -5,7 +5,7 @@ use Rattle.qrules.proofs.Common.{Member, row_of, number_received, TakesBest, tak
 use Rattle.qrules.proofs.Common.{Completion, OpenCall, best_of, best-at, Option, None, Some, is_some, not, ◌&&◌}
 use Rattle.std.proofs.lemmas.Bool.{and_parts, eqb-true, not-true, or_parts, true≢false}
 use Rattle.qrules.proofs.Basics.{is_for_answer, is_send, sender, threads_of, number_of, may_wait, waits_or_ends}
-use Rattle.qrules.proofs.Basics.{IsLawful, facts_of, has_completion_of, is_ended, is_received, item_of, accepted_at}
+use Rattle.qrules.proofs.Basics.{IsLawful, facts_of, completes, is_ended, is_received, item_of, accepted_at}
 use Rattle.qrules.proofs.Basics.{open_call, copied_count_among, copied_count_of, filled, ends_own, open_known}
 use Rattle.qrules.proofs.Basics.{passes_of, item_accepted, item_answer, item_at, item_below, item_earlier, item_made}
 use Rattle.qrules.proofs.Basics.{send_from, send_parts, sender_found, known, open_from, filled_answer, open_thread}
@@ -79,17 +79,17 @@ made_waits : (roster : List Member) (past : Trace) (i : ℕ) (m : SentItem) → 
     → item_at roster past i ≡ Some m → is_ended past i ≡ false → (t : ℕ) × (accepted_at waiter past i ≡ Some t)
 made_waits roster [] i m l is going = absurd (none-some m is)
 made_waits roster (e ∷ past) i m l is going =
-    let p = or_parts (has_completion_of e.completions i) (is_ended past i) going in
+    let p = or_parts (completes e.completions i) (is_ended past i) going in
     elim (eqb i (length past + 1))
     as (λ b. eqb i (length past + 1) ≡ b → cond b (item_of roster e past) (item_at roster past i) ≡ Some m
     → (t : ℕ) × (accepted_at waiter (e ∷ past) i ≡ Some t)) [
       | true ↦ λ same at. let number : i ≡ length past + 1 = eqb-true _ _ same in
-          now number at (subst (λ j. has_completion_of e.completions j ≡ false) number p.0)
+          now number at (subst (λ j. completes e.completions j ≡ false) number p.0)
       | false ↦ λ other at. let k = made_waits roster past i m l.0 at p.1 in (k.0, made_stays waiter e past i k.0 k.1)
     ] refl is
   where
     now : i ≡ length past + 1 → item_of roster e past ≡ Some m
-        → has_completion_of e.completions (length past + 1) ≡ false
+        → completes e.completions (length past + 1) ≡ false
         → (t : ℕ) × (accepted_at waiter (e ∷ past) i ≡ Some t)
     now number at unended =
         let f = facts_of roster past in

@@ -79,14 +79,14 @@ completions_keep_length roster past e r l =
     let f = facts_of roster past in
     let P = λ (x : Completion). length x.buffer ≡ length (buffer_brought roster past e.thread e.call x.thread) in
     elim (l.1.1) [
-      | inl a ↦ subst (AllByRecursion P) (sym a.1)
+      | inl a ↦ subst (AllByRecursion P) (sym a.by_row)
           (all_filter_map P (completion_to f e.thread e.call) (threads_of roster) (λ v y is.
           elim (completion_names f e.thread e.call v y (laws_of f e.thread e.call e.completions a) is) [
             | inl own ↦ rw (own.names.thread, eqb_same e.thread) (own_length f e.thread e.call y own.is)
             | inr other ↦ rw (other.names.thread, other.thread)
                 (ends_length f e.thread e.call v y (passes_of f e.thread e.call e.completions a) other.is)
           ]))
-      | inr a ↦ subst (AllByRecursion P) (sym a.2) (rw (eqb_same e.thread) refl, tt)
+      | inr a ↦ subst (AllByRecursion P) (sym a.only) (rw (eqb_same e.thread) refl, tt)
     ]
 
 -- ---- the open call of a thread afterwards

@@ -3,7 +3,7 @@ use Rattle.qrules.proofs.Common.{arith, ◌≡◌, ℕ, ◌+◌, List, [], ◌�
 use Rattle.qrules.proofs.Common.{eqb, waiter, channel_of, number_of, none-some, Member, Event, Trace, Call, OpenCall}
 use Rattle.qrules.proofs.Common.{Option, None, Some, is_some}
 use Rattle.std.proofs.lemmas.Bool.{eqb-true, or_parts}
-use Rattle.qrules.proofs.Basics.{may_wait, IsLawful, has_completion_of, is_accepted, is_ended, accepted_at, block}
+use Rattle.qrules.proofs.Basics.{may_wait, IsLawful, completes, is_accepted, is_ended, accepted_at, block}
 use Rattle.qrules.proofs.Basics.{item_of, asks, call_laws}
 use Rattle.qrules.proofs.Traces.Properties.Messages.{block_stays}
 
@@ -72,7 +72,7 @@ unended_newest roster (e ∷ past) t i l is going =
           }
       | false ↦ λ other at.
           let before : is_ended past i ≡ false =
-          (or_parts (has_completion_of e.completions i) (is_ended past i) going).1 in
+          (or_parts (completes e.completions i) (is_ended past i) going).1 in
           let k = unended_newest roster past t i l.0 at before in
           record {
             block = k.block;
