@@ -1,4 +1,4 @@
--- LevelRings that are padded with zeros.
+-- Lists that are padded with zeros.
 use Rattle.qqueue.proofs.Common.{◌≡◌, ℕ, zero, suc, ◌≤◌, List, [], ◌∷◌, ◌++◌, length, get_or, take, replicate, cond}
 use Rattle.qqueue.proofs.Common.{Bool, true, false, refl, ap, ◌∙◌, take_all}
 

@@ -1,4 +1,4 @@
--- LevelRings of rising numbers, with one more item or after a filter.
+-- Lists of rising numbers, with one more item or after a filter.
 use Rattle.qqueue.proofs.Common.{◌<◌, List, [], ◌∷◌, ◌++◌, Bool, true, false, cond, filter, AllByRecursion, Item}
 use Rattle.qqueue.proofs.Common.{IsRising, all_append, all_filter}
 
