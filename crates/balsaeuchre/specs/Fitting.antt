@@ -5,7 +5,7 @@ use Rattle.qrules.specs.Words.calls
 use Rattle.qrules.specs.Words.mark
 use Rattle.qrules.specs.Trace.{call_at, Bytes}
 use Rattle.qrules_laws.specs.Completions.{OfEachCompletion}
-use Rattle.balsaeuchre_calls.specs.Results.{answer_in, bytes_in, channel_in, connection_in, count_in, done_in}
+use Rattle.balsaeuchre_calls.specs.Results.{reply_in, bytes_in, channel_in, connection_in, count_in, done_in}
 use Rattle.balsaeuchre_calls.specs.Results.{info_in}
 use Rattle.balsaeuchre_calls.specs.Results.{pulse_in, received_in, state_in, Reading}
 use Rattle.balsaeuchre_calls.specs.declared.error.CallError.TheVariants.{Unexpected}
@@ -48,7 +48,7 @@ CompletionsFit = OfEachCompletion (λ roster past e x.
 abbrev pub reading_of : Call → (A : Type 0) × Reading A
 reading_of (calls.ChannelCreate flags) = (ℕ, channel_in)
 reading_of (calls.ConnectAttach chid) = (ℕ, connection_in)
-reading_of (calls.Send coid message reply_buffer) = (Reply, answer_in)
+reading_of (calls.Send coid message reply_buffer) = (Reply, reply_in)
 reading_of (calls.Receive chid buffer) = (Received, received_in)
 reading_of (calls.ReceivePulse chid) = (Pulse, pulse_in)
 reading_of (calls.Read rcvid offset buffer) = (List ℕ, bytes_in)

@@ -2,7 +2,7 @@
 pub use Rattle.balsaeuchre_calls.specs.Coming.{ComesOf, Gives}
 pub use Rattle.balsaeuchre_calls.specs.History.{History, told_by}
 pub use Rattle.balsaeuchre_calls.specs.Making.{Comes, Follows, Leads, Makes, MakesBoth, completed_in, read_off}
-pub use Rattle.balsaeuchre_calls.specs.Results.{Reading, answer_in, done_in, pulse_in, received_in}
+pub use Rattle.balsaeuchre_calls.specs.Results.{Reading, reply_in, done_in, pulse_in, received_in}
 pub use Rattle.balsaeuchre_calls.specs.Simulating.{Simulation, done, completed_of, is_of, unless_blocked, unmade}
 pub use Rattle.balsaeuchre_calls.specs.Simulating.{without}
 pub use Rattle.balsaeuchre_calls.specs.declared.completed.Completed.{Completed}

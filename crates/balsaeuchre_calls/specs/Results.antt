@@ -32,10 +32,10 @@ connection_in waited (mark.Connection coid) buffer = Ok coid
 connection_in waited other buffer = Err (error_in waited other)
 
 -- the server's status, and the reply buffer with the number of bytes that were copied to its start
-abbrev pub answer_in : Reading Reply
-answer_in waited (mark.Replied status copied) buffer =
+abbrev pub reply_in : Reading Reply
+reply_in waited (mark.Replied status copied) buffer =
     Ok (record { status = status; copied = copied; buffer = buffer })
-answer_in waited other buffer = Err (error_in waited other)
+reply_in waited other buffer = Err (error_in waited other)
 
 -- a message with the buffer that it was copied to, or a pulse
 abbrev pub received_in : Reading Received

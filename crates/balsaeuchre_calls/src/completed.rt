@@ -1,7 +1,7 @@
 //! The completion of a call, and the results that are read from it.
 
 ghost use Rattle.std.specs.Prelude.{◌≡◌};
-ghost use Rattle.balsaeuchre_calls.specs.Results.{answer_in, bytes_in, channel_in, connection_in, count_in};
+ghost use Rattle.balsaeuchre_calls.specs.Results.{reply_in, bytes_in, channel_in, connection_in, count_in};
 ghost use Rattle.balsaeuchre_calls.specs.Results.{done_in, info_in, pulse_in, received_in, state_in};
 
 use crate::error::{CallError, error_in};
@@ -57,8 +57,8 @@ impl Completed {
     }
 
     /// Returns the reply to a message.
-    pub fn answer(self) -> Result<Reply, CallError>
-        ensures { result ≡ answer_in self.waited self.mark self.buffer }
+    pub fn reply(self) -> Result<Reply, CallError>
+        ensures { result ≡ reply_in self.waited self.mark self.buffer }
     {
         let Completed {
             waited,

@@ -4,7 +4,7 @@ ghost use Rattle.std.specs.Prelude.{◌≡◌, replicate};
 ghost use Rattle.balsaeuchre_calls.specs.Coming.{ComesOf, ComesOfBothBytes, ComesOfBytes};
 ghost use Rattle.balsaeuchre_calls.specs.Making.{Makes, MakesBothOfBytes, MakesOfBytes};
 ghost use Rattle.balsaeuchre_calls.specs.Polling.{Polls, StartsOfBytes, option_in};
-ghost use Rattle.balsaeuchre_calls.specs.Results.{answer_in, pulse_in, received_in};
+ghost use Rattle.balsaeuchre_calls.specs.Results.{reply_in, pulse_in, received_in};
 
 use crate::caller::Caller;
 use crate::calls::Calls;
@@ -28,14 +28,14 @@ impl<'a, E: Endpoint, R: Wait> Caller<'a, E, R> {
         message: &[u8],
         reply_len: usize,
     ) -> Result<Reply, CallError>
-        ensures makes { MakesOfBytes answer_in (Call.Send coid message.now (replicate reply_len 0))
+        ensures makes { MakesOfBytes reply_in (Call.Send coid message.now (replicate reply_len 0))
             (E.history self.old.endpoint) (E.history self.new.endpoint) result }
         ensures came { ComesOfBytes (λ e. E.history e) E.came self.old.endpoint
             (Call.Send coid message.now (replicate reply_len 0)) (E.seen self.old.endpoint)
             (E.seen self.new.endpoint) (E.history self.new.endpoint) result }
     {
         let send = with_bytes::send(self.alloc, coid, message, reply_len)?;
-        self.make(send)?.answer()
+        self.make(send)?.reply()
     }
 
     /// Receives a message, into a buffer of `len` bytes, or a pulse from a channel, and waits if there is

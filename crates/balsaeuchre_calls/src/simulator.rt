@@ -133,7 +133,7 @@ impl Simulator {
     }
 
     /// Takes the completion of a thread's blocked call. It is `None` if the call hasn't completed or its
-    /// completion was taken. `Completed::answer` reads the result of a `msg_send` from it, `received` the
+    /// completion was taken. `Completed::reply` reads the result of a `msg_send` from it, `received` the
     /// result of a `msg_receive`, and `pulse` the result of a `msg_receive_pulse`.
     pub fn take(&mut self, thread: ThreadNo) -> Option<Completed>
         ensures completed { result ≡ option_map completed_after_wait (completed_of thread self.old.kept) }

@@ -3,7 +3,7 @@
 ghost use Rattle.std.specs.Prelude.{replicate};
 ghost use Rattle.qmodel.specs.declared.call.Call.TheVariants as Call;
 ghost use Rattle.balsaeuchre_calls.specs.Coming.{ComesWithin};
-ghost use Rattle.balsaeuchre_calls.specs.Results.{answer_in, pulse_in, received_in};
+ghost use Rattle.balsaeuchre_calls.specs.Results.{reply_in, pulse_in, received_in};
 ghost use Rattle.balsaeuchre_calls.specs.Timing.{IsTimed, MakesWithin};
 
 use crate::alarms::Alarms;
@@ -29,7 +29,7 @@ impl<'a, E: Endpoint, R: Wait + Clock> Caller<'a, E, R> {
         reply_len: usize,
         time: Duration,
     ) -> Result<Reply, CallError>
-        ensures makes { MakesWithin answer_in (Call.Send coid message.now (replicate reply_len 0))
+        ensures makes { MakesWithin reply_in (Call.Send coid message.now (replicate reply_len 0))
             (E.history self.old.endpoint) (E.history self.new.endpoint) result }
         ensures came { ComesWithin (λ e. E.history e) E.came self.old.endpoint
             (Call.Send coid message.now (replicate reply_len 0)) (E.seen self.old.endpoint)

@@ -8,7 +8,7 @@ ghost use Rattle.balsaeuchre.specs.Coming.{ComesOf};
 ghost use Rattle.balsaeuchre.specs.Lawful.{event_call};
 ghost use Rattle.balsaeuchre.specs.Making.{MakesOfBytes};
 ghost use Rattle.balsaeuchre.specs.Naming.{AreParts};
-ghost use Rattle.balsaeuchre.specs.Results.{answer_in};
+ghost use Rattle.balsaeuchre.specs.Results.{reply_in};
 ghost use Rattle.balsaeuchre_examples.specs.Answered.{is_sent, ToldAfterAnswer};
 
 use crate::three_callers::three_callers;
@@ -41,7 +41,7 @@ fn ask<'a, 'p, K: Tie, L: Log, R: Wait>(
     message: &[u8],
 ) -> Result<Note<K>>
     ensures answered { IfOk result
-        (λ note. MakesOfBytes answer_in (calls.Send coid message.now (replicate 8 0))
+        (λ note. MakesOfBytes reply_in (calls.Send coid message.now (replicate 8 0))
         (⟦<KernelPort<'p, K, L> as Endpoint>⟧.history client.old.endpoint)
         (⟦<KernelPort<'p, K, L> as Endpoint>⟧.history client.new.endpoint) (Ok note.answer)) }
     ensures sent { IfOk result

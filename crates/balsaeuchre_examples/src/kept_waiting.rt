@@ -117,7 +117,7 @@ impl Client {
             replies.push(ClientReply {
                 call: self.call,
                 thread: self.thread,
-                answer: completion.answer()?,
+                answer: completion.reply()?,
             })?;
         }
         Ok(())

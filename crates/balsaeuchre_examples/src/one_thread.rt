@@ -58,6 +58,6 @@ pub fn echo(alloc: Global, message: &[u8]) -> Result<ClientReply, CallError> {
     Ok(ClientReply {
         call,
         thread: CLIENT,
-        answer: completion.answer()?,
+        answer: completion.reply()?,
     })
 }

@@ -6,7 +6,6 @@ ghost use Rattle.qrules.specs.Lawful.{IsLawful};
 ghost use Rattle.qrules.specs.Properties.{HasProperties};
 ghost use Rattle.qkernel_state.specs.Contents.{members_of};
 ghost use Rattle.qkernel_state.specs.Threads.{IsSeatIn};
-ghost use Rattle.qkernel.specs.LentCall.{call_lent};
 ghost use Rattle.qkernel.specs.Matching.{AnswersAtTraces, MatchesAt};
 ghost use Rattle.qhandoff.specs.Steps.{seated_kernel_view};
 ghost use Rattle.qshared.specs.History.{Extends};
@@ -74,33 +73,6 @@ fn ended_or_open(own: Option<Completion>) -> Called
     }
 }
 
-/// Returns the call with its bytes lent, if it is a Reply or a Write.
-fn lent_of(call: &Call) -> Option<LentCall<'_>>
-    ensures { IfSome result (λ lent. call_lent lent ≡ call.now) }
-{
-    match call {
-        Call::Reply {
-            rcvid,
-            status,
-            bytes,
-        } => Some(LentCall::Reply {
-            rcvid: *rcvid,
-            status: *status,
-            bytes: bytes.as_slice(),
-        }),
-        Call::Write {
-            rcvid,
-            offset,
-            bytes,
-        } => Some(LentCall::Write {
-            rcvid: *rcvid,
-            offset: *offset,
-            bytes: bytes.as_slice(),
-        }),
-        _ => None,
-    }
-}
-
 /// Makes a call of the thread at this index. The bytes of a Reply or a Write are only lent to the kernel, and
 /// the call stays in `lent`, so that they aren't freed under the lock.
 fn make_at(
@@ -116,7 +88,7 @@ fn make_at(
     ensures event { AnswersAtTraces kernel.old seat.now.thread call completions.new.items kernel.new }
     ensures roster { members_of kernel.new.threads ≡ members_of kernel.old.threads }
 {
-    if let Some(lending) = lent_of(&call) {
+    if let Some(lending) = LentCall::of(&call) {
         let Ok(()) = kernel.call_lent_at(seat, &lending, completions) else {
             unreachable!();
         };

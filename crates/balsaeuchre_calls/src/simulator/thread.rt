@@ -2,7 +2,7 @@
 
 ghost use Rattle.std.specs.Prelude.{◌≡◌, replicate};
 ghost use Rattle.balsaeuchre_calls.specs.Making.{completed_in};
-ghost use Rattle.balsaeuchre_calls.specs.Results.{answer_in, pulse_in, received_in};
+ghost use Rattle.balsaeuchre_calls.specs.Results.{reply_in, pulse_in, received_in};
 ghost use Rattle.balsaeuchre_calls.specs.Simulating.{Simulates, SimulatesOfBytes, at_once, unless_blocked};
 
 use super::{Outcome, Simulator, done};
@@ -24,7 +24,7 @@ pub struct SimulatorThread<'s> {
 
 impl<'s> SimulatorThread<'s> {
     /// Sends a message over a connection, with a reply buffer of `reply_len` bytes (`MsgSend`). The thread is
-    /// blocked until the reply, and then `Completed::answer` reads the reply from the completion. Refused
+    /// blocked until the reply, and then `Completed::reply` reads the reply from the completion. Refused
     /// with `Badf` if the connection isn't live, is another process's, or its channel isn't open.
     pub fn msg_send(
         &mut self,
@@ -32,7 +32,7 @@ impl<'s> SimulatorThread<'s> {
         message: &[u8],
         reply_len: usize,
     ) -> Result<Outcome<Reply>, CallError>
-        ensures made { SimulatesOfBytes (unless_blocked answer_in) self.old.thread
+        ensures made { SimulatesOfBytes (unless_blocked reply_in) self.old.thread
             (Call.Send coid message.now (replicate reply_len 0)) self.old.simulator.now
             self.new.simulator.now result }
         ensures same { (self.new.thread ≡ self.old.thread)
@@ -40,7 +40,7 @@ impl<'s> SimulatorThread<'s> {
     {
         let send = with_bytes::send(self.simulator.alloc(), coid, message, reply_len)?;
         match self.simulator.make(self.thread, send)? {
-            Outcome::Done(completed) => done(completed.answer()),
+            Outcome::Done(completed) => done(completed.reply()),
             Outcome::Blocked => Ok(Outcome::Blocked),
         }
     }
