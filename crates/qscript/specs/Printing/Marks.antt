@@ -5,16 +5,9 @@ use Rattle.qbase.specs.Errno.{word_of}
 use Rattle.qbase.specs.declared.state.ThreadState.{ThreadState}
 use Rattle.qqueue.specs.declared.item.What.{What}
 use Rattle.qqueue.specs.declared.item.What.TheVariants.{Message, User, Unblock, Disconnect}
-use Rattle.qmodel.specs.declared.call.Info.{Info}
 use Rattle.qmodel.specs.declared.call.Mark.{Mark}
 use Rattle.qmodel.specs.declared.call.Mark.TheVariants as marks
 use Rattle.qscript.specs.Printing.State.{state_words}
-
--- the facts of a held message: the sender's process and thread, the connection, the three lengths and the
--- priority
-abbrev pub info_words : Info → List (List ℕ)
-info_words i = codes "info" ∷ decimal i.process ∷ decimal i.thread ∷ decimal i.connection ∷ decimal i.msglen
-    ∷ decimal i.srcmsglen ∷ decimal i.dstmsglen ∷ decimal i.priority ∷ []
 
 -- the content of a pulse: a code and a value, the message whose sender is to be unblocked, or the process
 -- that detached
@@ -24,15 +17,9 @@ brought_words (User code value) = codes "user" ∷ signed_decimal code ∷ signe
 brought_words (Unblock message) = codes "unblock" ∷ decimal message ∷ []
 brought_words (Disconnect process) = codes "disconnect" ∷ decimal process ∷ []
 
--- a received pulse: the number of the call that made it, its priority, and its content
-abbrev pub pulse_words : ℕ → ℕ → What → List (List ℕ)
-pulse_words item priority what = codes "pulse" ∷ decimal item ∷ decimal priority ∷ brought_words what
-
--- a thread's state and priority, which the call State returns
-abbrev pub told_words : ThreadState → ℕ → List (List ℕ)
-told_words state priority = codes "state" ∷ state_words state ++ decimal priority ∷ []
-
--- the words of a result
+-- the words of a result. For Info they are the sender's process and thread, the connection, the three lengths
+-- and the priority; for a pulse the number of the call that made it, its priority and its content; for State
+-- the thread's state and priority.
 unfoldable pub mark_words : Mark → List (List ℕ)
 mark_words marks.Ok = codes "ok" ∷ []
 mark_words (marks.Failed errno) = codes "fail" ∷ word_of errno ∷ []
@@ -42,6 +29,9 @@ mark_words (marks.Replied status copied) = codes "reply" ∷ signed_decimal stat
 mark_words (marks.Message rcvid copied) = codes "message" ∷ decimal rcvid ∷ decimal copied ∷ []
 mark_words (marks.Errored code) = codes "error" ∷ signed_decimal code ∷ []
 mark_words (marks.Count copied) = codes "count" ∷ decimal copied ∷ []
-mark_words (marks.Info info) = info_words info
-mark_words (marks.Pulse item priority what) = pulse_words item priority what
-mark_words (marks.State state priority) = told_words state priority
+mark_words (marks.Info info) = codes "info" ∷ decimal info.process ∷ decimal info.thread
+    ∷ decimal info.connection ∷ decimal info.msglen ∷ decimal info.srcmsglen ∷ decimal info.dstmsglen
+    ∷ decimal info.priority ∷ []
+mark_words (marks.Pulse item priority what) =
+    codes "pulse" ∷ decimal item ∷ decimal priority ∷ brought_words what
+mark_words (marks.State state priority) = codes "state" ∷ state_words state ++ decimal priority ∷ []

@@ -1,10 +1,10 @@
 //! Prints the result of a call.
 
-ghost use Rattle.std.specs.Prelude.{◌≡◌, [], ◌∷◌, ◌++◌, OnOk, codes, string_bytes};
+ghost use Rattle.std.specs.Prelude.{◌≡◌, [], ◌∷◌, ◌++◌, OnOk, codes, decimal, string_bytes};
 ghost use Rattle.qbase.specs.Errno.{word_of};
 ghost use Rattle.qscript.specs.Printing.Words.{words_with_spaces};
-ghost use Rattle.qscript.specs.Printing.Marks.{info_words, brought_words, pulse_words, told_words};
-ghost use Rattle.qscript.specs.Printing.Marks.{mark_words};
+ghost use Rattle.qscript.specs.Printing.State.{state_words};
+ghost use Rattle.qscript.specs.Printing.Marks.{brought_words, mark_words};
 
 use crate::printing::operands::{number, numbers};
 use qbase::errno::{Errno, word};
@@ -51,7 +51,9 @@ fn push_failed(out: &mut String, errno: Errno) -> Result<(), AllocError>
 /// Adds `info PROCESS THREAD CONNECTION MSGLEN SRCMSGLEN DSTMSGLEN PRIORITY`.
 fn push_info(out: &mut String, info: Info) -> Result<(), AllocError>
     ensures { OnOk result (string_bytes out.new ≡ string_bytes out.old ++ words_with_spaces
-        (info_words info)) }
+        (codes "info" ∷ decimal info.process ∷ decimal info.thread ∷ decimal info.connection
+        ∷ decimal info.msglen ∷ decimal info.srcmsglen ∷ decimal info.dstmsglen ∷ decimal info.priority
+        ∷ [])) }
 {
     let process = info.process.0;
     let thread = info.thread.0;
@@ -69,7 +71,7 @@ fn push_info(out: &mut String, info: Info) -> Result<(), AllocError>
 /// Adds `pulse ITEM PRIORITY` and the content of the pulse.
 fn push_pulse(out: &mut String, item: u64, priority: Priority, what: What) -> Result<(), AllocError>
     ensures { OnOk result (string_bytes out.new ≡ string_bytes out.old ++ words_with_spaces
-        (pulse_words item priority what)) }
+        (codes "pulse" ∷ decimal item ∷ decimal priority ∷ brought_words what)) }
 {
     let level = priority.get();
     write!(out, " pulse {item} {level}")?;
@@ -94,7 +96,7 @@ fn push_brought(out: &mut String, what: What) -> Result<(), AllocError>
 /// STATE.
 fn push_told(out: &mut String, state: ThreadState, priority: Priority) -> Result<(), AllocError>
     ensures { OnOk result (string_bytes out.new ≡ string_bytes out.old ++ words_with_spaces
-        (told_words state priority)) }
+        (codes "state" ∷ state_words state ++ decimal priority ∷ [])) }
 {
     let level = u64::from(priority.get());
     write!(out, " state")?;
