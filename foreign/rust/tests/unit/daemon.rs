@@ -1,8 +1,11 @@
 //! Tests of the data that the ports of a program share.
 
 use super::*;
+use std::fs;
 use std::io::Read;
 use std::os::unix::net::UnixStream;
+use std::sync::mpsc;
+use std::time::Instant;
 
 /// While a thread may open the program's next socket, the previous socket is still known, or it has ended.
 #[test]
@@ -13,14 +16,29 @@ fn a_program_ends_under_the_lock() {
         Arc::new(Program { path: "/none".into(), socket: socket.into(), pid: process::id(), scoid: 1, taken });
     let known = Arc::downgrade(&program);
     let programs = lock(&PROGRAMS);
+    let (begins, begun) = mpsc::channel();
     thread::scope(|scope| {
-        let dropping = scope.spawn(|| drop(Use(Some(program))));
-        thread::sleep(Duration::from_millis(50));
+        let dropping = scope.spawn(move || {
+            begins.send(fs::read_link("/proc/thread-self").unwrap()).unwrap();
+            drop(Use(Some(program)))
+        });
+        // Under ThreadSanitizer no thread sleeps for a lock, so there the wait ends by time.
+        let most = if cfg!(tsan) { Duration::from_millis(50) } else { Duration::from_secs(10) };
+        let (since, thread) = (Instant::now(), begun.recv().unwrap());
+        while !dropping.is_finished() && !sleeps(&thread) && since.elapsed() < most {
+            thread::sleep(Duration::from_millis(1));
+        }
         assert!(known.upgrade().is_some());
         drop(programs);
         dropping.join().unwrap();
     });
     assert_eq!(other.read(&mut [0]).unwrap(), 0);
+}
+
+/// Returns whether a thread of this process sleeps. Its path is relative to `/proc`.
+fn sleeps(thread: &Path) -> bool {
+    let stat = fs::read_to_string(Path::new("/proc").join(thread).join("stat")).unwrap_or_default();
+    stat.rsplit(')').next().is_some_and(|words| words.starts_with(" S"))
 }
 
 /// A daemon that refuses a socket sends an answer, and closes the socket before the ask comes, or without
