@@ -8,10 +8,10 @@ use crate::fault::{ServeFault, WorkerFault};
 use crate::progress::Progress;
 use crate::protocol::{MAIN_LEVEL, STOP, priority};
 use crate::settings::{Settings, Stacks};
-use crate::stage::{Joined, Stage, Started};
 use crate::texts::Totals;
 use crate::timing::{Timing, start_of, timing_of};
 use crate::work_counts::{WorkCounts, both};
+use crate::worker_threads::{Joined, Started, WorkerScope};
 use balsaeuchre_calls::caller::Caller;
 use balsaeuchre_calls::calls::Calls;
 use balsaeuchre_calls::endpoint::Endpoint;
@@ -125,7 +125,7 @@ fn gather<K: Tie + Send + Sync, L: Log + Send, R: Threads + Wait + Clock + Eprin
     let start = start_of(rt, settings.time)?;
     let (main, crew) = crew_of(ports, settings.servers)?;
     let (work, port) = thread::scope(thread::scope_env(), rt, move |scope| {
-        let stage = Stage {
+        let workers = WorkerScope {
             rt,
             alloc,
             scope,
@@ -134,7 +134,7 @@ fn gather<K: Tie + Send + Sync, L: Log + Send, R: Threads + Wait + Clock + Eprin
             stacks,
         };
         let mut main = Caller::of(main, shared, rt, alloc);
-        let work = conduct(&stage, &mut main, crew, settings);
+        let work = conduct(&workers, &mut main, crew, settings);
         (main.or_shutdown(work), main.into_port())
     });
     let mut main = Vec::new(alloc);
@@ -155,7 +155,7 @@ fn conduct<
     R: Threads + Wait + Clock + Eprint + Sync,
     E: Endpoint,
 >(
-    stage: &Stage<'s, X, K, L, R>,
+    workers: &WorkerScope<'s, X, K, L, R>,
     main: &mut Caller<'_, E, R>,
     crew: Crew<K>,
     settings: Settings,
@@ -163,20 +163,20 @@ fn conduct<
     let chid = main.channel_create(ChannelFlags::of(0))?;
     let coid = main.connect_attach(chid)?;
     let (given, mut alarm) = if settings.hold {
-        (crew.alarm, Vec::new(stage.alloc))
+        (crew.alarm, Vec::new(workers.alloc))
     } else {
-        (Vec::new(stage.alloc), crew.alarm)
+        (Vec::new(workers.alloc), crew.alarm)
     };
     let many = crew.servers.len();
-    let servers = stage.start(crew.servers, None, given, chid)?;
-    let clients = stage.start(crew.clients, Some(settings), Vec::new(stage.alloc), chid)?;
+    let servers = workers.start(crew.servers, None, given, chid)?;
+    let clients = workers.start(crew.clients, Some(settings), Vec::new(workers.alloc), chid)?;
     let started = main.or_shutdown(both(servers.all, clients.all));
     if settings.progress {
-        stage.show(clients.threads.len() as u64, settings.all_rounds());
+        workers.show(clients.threads.len() as u64, settings.all_rounds());
     }
-    let clients = stage.join_all(clients.threads, &mut alarm)?;
+    let clients = workers.join_all(clients.threads, &mut alarm)?;
     let stopped = stop_servers(main, coid, many);
-    let servers = stage.join_all(servers.threads, &mut alarm)?;
+    let servers = workers.join_all(servers.threads, &mut alarm)?;
     let gathered = gathered_of(servers, clients, alarm, both(started, stopped))?;
     main.channel_destroy(chid)?;
     main.shutdown()?;

@@ -57,7 +57,7 @@ pub struct Joined<K: Tie> {
 
 /// The scope in which workers are started, and the kernel that they call.
 #[derive(Drop)]
-pub struct Stage<'s, X, K: Tie, L: Log, R> {
+pub struct WorkerScope<'s, X, K: Tie, L: Log, R> {
     pub rt: &'s R,
     pub alloc: Global,
     pub scope: &'s Scope<'s, X>,
@@ -66,13 +66,13 @@ pub struct Stage<'s, X, K: Tie, L: Log, R> {
     pub stacks: Stacks,
 }
 
-impl<'s, X, K: Tie + Send + Sync, L: Log + Send, R: Threads + Wait + Clock + Eprint + Sync> Stage<
+impl<
     's,
     X,
-    K,
-    L,
-    R,
-> {
+    K: Tie + Send + Sync,
+    L: Log + Send,
+    R: Threads + Wait + Clock + Eprint + Sync,
+> WorkerScope<'s, X, K, L, R> {
     /// Starts a worker for each of these ports: a client if there are settings, otherwise a server. If there
     /// is an alarm, the first server takes it and holds a message. If there is no memory for a list of
     /// threads, it returns an error before it starts the first.
