@@ -1,8 +1,8 @@
 //! Reads the operands of a line, by their sorts.
 
-ghost use Rattle.std.specs.Prelude.{◌≡◌, IfOk, Ok};
+ghost use Rattle.std.specs.Prelude.{◌≡◌, [], ◌∷◌, IfOk, Ok};
 ghost use Rattle.qscript_text.specs.Reading.Forms.{member_of, no_values, value_of, values_of};
-ghost use Rattle.qscript_text.specs.Reading.Steps.{◌>>=◌, Gives};
+ghost use Rattle.qscript_text.specs.Reading.Steps.{Gives};
 ghost use Rattle.qscript_text.specs.Reading.Words.{words_of};
 
 use crate::fault::{LineFault, ParseError};
@@ -91,7 +91,7 @@ fn with_next(
     sort: OperandKind,
     word: &[u8],
 ) -> Result<Result<Values, LineFault>, AllocError>
-    ensures { IfOk result (λ next. next ≡ (read >>= value_of sort word.now)) }
+    ensures { IfOk result (λ next. next ≡ values_of (sort ∷ []) (word.now ∷ []) read) }
 {
     let values = match read {
         Ok(values) => values,
