@@ -10,10 +10,16 @@ use Rattle.balsaeuchre_examples.specs.Carried as carried
 pub first_lawful : (message answer : List ℕ) → IsLawful first.roster (followed_by [] (first.events message answer))
 first_lawful message answer = (
   (
-    (((tt, (search, inl (refl, refl))), (search, inl (refl, refl))), (search, inl (refl, refl))),
-    (search, inl (refl, refl)),
+    (
+      (
+        (tt, (search, inl (record { no_refusal = refl; by_row = refl }))),
+        (search, inl (record { no_refusal = refl; by_row = refl })),
+      ),
+      (search, inl (record { no_refusal = refl; by_row = refl })),
+    ),
+    (search, inl (record { no_refusal = refl; by_row = refl })),
   ),
-  (search, inl (refl, refl)),
+  (search, inl (record { no_refusal = refl; by_row = refl })),
 )
 
 pub first_memory : (message answer : List ℕ) → HadMemory (first.events message answer)
@@ -27,23 +33,29 @@ shut_down_lawful = (
         (
           (
             (
-              (((tt, (search, inl (refl, refl))), (search, inl (refl, refl))), (search, inl (refl, refl))),
+              (
+                (
+                  (tt, (search, inl (record { no_refusal = refl; by_row = refl }))),
+                  (search, inl (record { no_refusal = refl; by_row = refl })),
+                ),
+                (search, inl (record { no_refusal = refl; by_row = refl })),
+              ),
               (
                 search,
-                inl (refl, refl),
+                inl (record { no_refusal = refl; by_row = refl }),
               ),
             ),
-            (search, inl (refl, refl)),
+            (search, inl (record { no_refusal = refl; by_row = refl })),
           ),
-          (search, inl (refl, refl)),
+          (search, inl (record { no_refusal = refl; by_row = refl })),
         ),
-        (search, inl (refl, refl)),
+        (search, inl (record { no_refusal = refl; by_row = refl })),
       ),
-      (search, inl (refl, refl)),
+      (search, inl (record { no_refusal = refl; by_row = refl })),
     ),
-    (search, inl (refl, refl)),
+    (search, inl (record { no_refusal = refl; by_row = refl })),
   ),
-  (search, inr (Down, inl refl, refl)),
+  (search, inr (record { error = Down; cause = inl refl; only = refl })),
 )
 
 pub shut_down_memory : HadMemory shut.events
@@ -71,15 +83,21 @@ pub cut_lawful : IsLawful three.roster (followed_by [] timeout.cut_events)
 cut_lawful = (
   (
     (
-      (((tt, (search, inl (refl, refl))), (search, inl (refl, refl))), (search, inl (refl, refl))),
+      (
+        (
+          (tt, (search, inl (record { no_refusal = refl; by_row = refl }))),
+          (search, inl (record { no_refusal = refl; by_row = refl })),
+        ),
+        (search, inl (record { no_refusal = refl; by_row = refl })),
+      ),
       (
         search,
-        inl (refl, refl),
+        inl (record { no_refusal = refl; by_row = refl }),
       ),
     ),
-    (search, inl (refl, refl)),
+    (search, inl (record { no_refusal = refl; by_row = refl })),
   ),
-  (search, inr (Srch, inl refl, refl)),
+  (search, inr (record { error = Srch; cause = inl refl; only = refl })),
 )
 
 pub cut_memory : HadMemory timeout.cut_events
@@ -90,14 +108,20 @@ told_lawful = (
   (
     (
       (
-        (((tt, (search, inl (refl, refl))), (search, inl (refl, refl))), (search, inl (refl, refl))),
-        (search, inl (refl, refl)),
+        (
+          (
+            (tt, (search, inl (record { no_refusal = refl; by_row = refl }))),
+            (search, inl (record { no_refusal = refl; by_row = refl })),
+          ),
+          (search, inl (record { no_refusal = refl; by_row = refl })),
+        ),
+        (search, inl (record { no_refusal = refl; by_row = refl })),
       ),
-      (search, inl (refl, refl)),
+      (search, inl (record { no_refusal = refl; by_row = refl })),
     ),
-    (search, inl (refl, refl)),
+    (search, inl (record { no_refusal = refl; by_row = refl })),
   ),
-  (search, inl (refl, refl)),
+  (search, inl (record { no_refusal = refl; by_row = refl })),
 )
 
 pub told_memory : HadMemory timeout.told_events
@@ -120,26 +144,32 @@ carried_lawful = (
               (
                 (
                   (
-                    (((tt, (search, inl (refl, refl))), (search, inl (refl, refl))), (search, inl (refl, refl))),
-                    (search, inl (refl, refl)),
+                    (
+                      (
+                        (tt, (search, inl (record { no_refusal = refl; by_row = refl }))),
+                        (search, inl (record { no_refusal = refl; by_row = refl })),
+                      ),
+                      (search, inl (record { no_refusal = refl; by_row = refl })),
+                    ),
+                    (search, inl (record { no_refusal = refl; by_row = refl })),
                   ),
-                  (search, inl (refl, refl)),
+                  (search, inl (record { no_refusal = refl; by_row = refl })),
                 ),
-                (search, inl (refl, refl)),
+                (search, inl (record { no_refusal = refl; by_row = refl })),
               ),
-              (search, inl (refl, refl)),
+              (search, inl (record { no_refusal = refl; by_row = refl })),
             ),
-            (search, inl (refl, refl)),
+            (search, inl (record { no_refusal = refl; by_row = refl })),
           ),
-          (search, inl (refl, refl)),
+          (search, inl (record { no_refusal = refl; by_row = refl })),
         ),
-        (search, inl (refl, refl)),
+        (search, inl (record { no_refusal = refl; by_row = refl })),
       ),
-      (search, inl (refl, refl)),
+      (search, inl (record { no_refusal = refl; by_row = refl })),
     ),
-    (search, inl (refl, refl)),
+    (search, inl (record { no_refusal = refl; by_row = refl })),
   ),
-  (search, inl (refl, refl)),
+  (search, inl (record { no_refusal = refl; by_row = refl })),
 )
 
 pub carried_memory : HadMemory carried.events
