@@ -18,7 +18,7 @@ use qscript::{Script, parse};
 use qscript_explain::history::CallHistory;
 use qscript_explain::waiting::{deadlocks, waits};
 use qscript_names::scope::Scope;
-use qscript_names::wording::Context;
+use qscript_names::context::Context;
 use qtables::member::Member;
 use std::alloc::{AllocError, Global};
 use std::mem;

@@ -6,6 +6,7 @@ use crate::expecting::names::NameCheck;
 use crate::label::NameFault;
 use crate::line::NamedLine;
 use crate::named::{NamedScript, line_fault, name_faults, process_faults, push_process_number};
+use crate::names_fault::NamesFault;
 use crate::plain::plain_line;
 use crate::reading::script::{Lined, lines_behind};
 use qbase::ids::ThreadNo;
@@ -36,7 +37,10 @@ pub struct IncrementalScript {
 
 /// The content that a line added to the run, or the faults of a line that wasn't added. A blank line adds
 /// nothing, or a state that is compared.
-pub type IncrementalStep = Result<Plain, Vec<Fault>>;
+pub type IncrementalStep = Result<Plain, Faults>;
+
+/// The faults of a line, or the differences from its expectations.
+type Faults = Vec<Fault<NamesFault>>;
 
 impl IncrementalScript {
     /// Returns the lines of a script that was read, and its calls, which haven't been made yet.
@@ -78,7 +82,7 @@ impl IncrementalScript {
         &self,
         extent: Extent,
         state: Option<&StateCheck>,
-    ) -> Result<(Vec<Fault>, Vec<u64>), AllocError> {
+    ) -> Result<(Faults, Vec<u64>), AllocError> {
         let mut open = Vec::new(self.alloc);
         let mut names = NameCheck::new(self.check.context(), extent);
         for call in &self.open {
@@ -164,7 +168,7 @@ impl IncrementalScript {
 
     /// Adds the process, the call or the thread of a line, or returns the faults of its process or of
     /// expectations.
-    fn expected(&mut self, said: &NamedLine, plain: &Plain) -> Result<Vec<Fault>, AllocError> {
+    fn expected(&mut self, said: &NamedLine, plain: &Plain) -> Result<Faults, AllocError> {
         let numbers = self.processes.len();
         push_process_number(&mut self.processes, said)?;
         let processes = self.processes.as_slice();
@@ -177,7 +181,7 @@ impl IncrementalScript {
     }
 
     /// Adds the call or the thread of a line, or returns the faults of the names in expectations.
-    fn open_faults(&mut self, said: &NamedLine, plain: &Plain) -> Result<Vec<Fault>, AllocError> {
+    fn open_faults(&mut self, said: &NamedLine, plain: &Plain) -> Result<Faults, AllocError> {
         let waiting = self.open.len();
         if let Plain::Call(..) = plain {
             self.open.push(self.check.calls.len() as u64)?;
@@ -201,7 +205,7 @@ impl IncrementalScript {
     /// Returns the differences from the expectations at the end of the lines that weren't returned before.
     /// These are the names that still aren't defined. If there are none, they are the calls that should have
     /// completed.
-    pub fn finish(&mut self, kernel: Option<&Kernel>) -> Result<Vec<Fault>, AllocError> {
+    pub fn finish(&mut self, kernel: Option<&Kernel>) -> Result<Faults, AllocError> {
         let (faults, _) = self.expectation_faults(Extent::Whole, None)?;
         if !faults.is_empty() {
             return Ok(faults);

@@ -9,6 +9,7 @@ pub mod parts;
 pub mod place;
 pub mod reading;
 pub mod states;
+pub mod text_fault;
 pub mod word;
 
 pub use reading::script::{MOST_TEXT, Script, parse};

@@ -6,9 +6,10 @@ use qkernel::kernel::Kernel;
 use qmodel::call::Call;
 use qscript::fault::{LineFault, ScriptFault};
 use qscript_explain::session::ScriptSession;
+use qscript_names::context::Context;
 use qscript_names::incremental::IncrementalScript;
+use qscript_names::names_fault::NamesFault;
 use qscript_names::scope::Scope;
-use qscript_names::wording::Context;
 use qscript_names::{NamedReading, read_so_far};
 use qscript_text::MOST_TEXT;
 use qscript_text::parts::{Lines, last_line};
@@ -21,12 +22,12 @@ use std::alloc::{AllocError, Global};
 pub enum Accepted {
     /// The lines are added. The bytes are their part of the trace, without the lines of blocked threads. The
     /// faults are the differences from the expectations that weren't reported before.
-    Added(Vec<u8>, Vec<Fault>),
+    Added(Vec<u8>, Vec<Fault<NamesFault>>),
     /// The line with this number isn't a valid line of a plain script. It is counted from the first line of
     /// the sheet.
     Plain(u64, LineFault),
     /// The lines aren't valid lines of a script with names.
-    Named(Vec<Fault>),
+    Named(Vec<Fault<NamesFault>>),
 }
 
 /// Lines with names, as they were read, and their meaning.
@@ -105,7 +106,7 @@ impl NamedLines {
         &mut self,
         session: &mut ScriptSession,
         calls: Vec<(ThreadNo, Call)>,
-    ) -> Result<Vec<Fault>, AllocError> {
+    ) -> Result<Vec<Fault<NamesFault>>, AllocError> {
         for member in self.growing.roster() {
             session.add_member(*member)?;
         }
@@ -117,7 +118,11 @@ impl NamedLines {
     }
 
     /// Adds a line, and adds its content to the run, unless it is faulty. Returns its faults.
-    fn add(&mut self, session: &mut ScriptSession, line: &[u8]) -> Result<Vec<Fault>, AllocError> {
+    fn add(
+        &mut self,
+        session: &mut ScriptSession,
+        line: &[u8],
+    ) -> Result<Vec<Fault<NamesFault>>, AllocError> {
         let read = match self.growing.add(line)? {
             Ok(read) => read,
             Err(faults) => return Ok(faults),
@@ -219,7 +224,7 @@ impl Transcript {
     }
 
     /// Returns the outcome of lines that were added. `shown` is the number of lines of the trace before that.
-    fn added(&self, shown: usize, faults: Vec<Fault>) -> Result<Accepted, AllocError> {
+    fn added(&self, shown: usize, faults: Vec<Fault<NamesFault>>) -> Result<Accepted, AllocError> {
         let mut lines = Lines(self.trace());
         for _ in 0..shown {
             lines.next();
@@ -272,7 +277,7 @@ impl Transcript {
     }
 
     /// Returns the differences from the expectations at the end of the lines that weren't reported before.
-    pub fn finish(&mut self) -> Result<Vec<Fault>, AllocError> {
+    pub fn finish(&mut self) -> Result<Vec<Fault<NamesFault>>, AllocError> {
         match &mut self.names {
             Some(names) => names.growing.finish(kernel_of(&self.session)),
             None => Ok(Vec::new(self.alloc)),

@@ -1,10 +1,10 @@
 //! The parts of a completion, which expectations are compared with, and its words, with names in place of
 //! numbers.
 
+use crate::context::Context;
 use crate::expectation::ExpectedResult;
 use crate::scope::Scope;
 use crate::shown::ShownNames;
-use crate::wording::Context;
 use qbase::bytes::Bytes;
 use qbase::errno::word;
 use qbase::ids::{ProcessNo, ThreadNo};
