@@ -201,7 +201,7 @@ impl ExpectationCheck {
     /// Returns the difference between a completion and the expected result.
     fn difference(&self, end: &ShownEnd, expectation: &Expectation) -> Mismatch {
         if let ExpectedCompletion::Parts(patterns) = &expectation.completion
-            && end.fits(self.context(), patterns.as_slice())?
+            && end.fits(&self.scope, patterns.as_slice())
         {
             return Ok(None);
         }
