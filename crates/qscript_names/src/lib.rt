@@ -1,4 +1,4 @@
-//! Reads scripts with names, translates them into plain scripts, and compares runs with their expectations.
+//! Reads scripts with names, resolves their names, and compares runs with their expectations.
 #![tactic(auto)]
 
 pub mod context;
@@ -13,6 +13,7 @@ pub mod names_fault;
 pub mod names_laws;
 pub mod plain;
 pub mod reading;
+pub mod resolution;
 pub mod scope;
 pub mod shown;
 pub mod translation;

@@ -8,10 +8,10 @@ use crate::hints::is_utf_16;
 use crate::label::NameFault;
 use crate::line::{CallLine, LineKind, NamedLine, Operand, Process};
 use crate::names_fault::{FaultyName, NameUsage, NamesFault};
-use crate::plain::plain_of;
 use crate::reading::script::{Lined, lines_behind};
 use crate::scope::Scope;
-use crate::translation::{Refusal, translate};
+use crate::translation::{Refusal, resolve, translate};
+use qmodel::kind::CallKind;
 use qscript_text::fault::{LineFault, ScriptFault};
 use qscript_text::parts::Lines;
 use qscript_text::place::{Fault, Place};
@@ -62,32 +62,29 @@ fn single(alloc: Global, place: Place, kind: NamesFault) -> NamedFaults {
 #[derive(Clone, Copy)]
 struct NameLookup<'a> {
     name: &'a Word,
-    /// The word of the call that has it as an operand.
-    verb: Option<&'a Word>,
+    /// The call that has it as an operand.
+    call: Option<CallKind>,
     /// The kind that it must have.
     kind: LineKind,
 }
 
 impl NameLookup<'_> {
     /// Returns the way in which the line uses the name.
-    fn usage(self, alloc: Global) -> Result<NameUsage, AllocError> {
-        match self.verb {
-            Some(verb) => Ok(NameUsage::Operand(verb.copied(alloc)?)),
-            None => Ok(NameUsage::Caller),
-        }
+    fn usage(self) -> NameUsage {
+        self.call.map_or(NameUsage::Caller, NameUsage::Operand)
     }
 }
 
-/// Returns the name that an operand has, if it is at this place. `verb` is the word of the call.
+/// Returns the name that an operand has, if it is at this place. `call` is the call that has the operand.
 fn use_by<'a>(
     operand: &'a Operand,
-    verb: Option<&'a Word>,
+    call: Option<CallKind>,
     place: Place,
 ) -> Option<NameLookup<'a>> {
     match operand {
         Operand::Name(mention) if mention.place == place => Some(NameLookup {
             name: &mention.name,
-            verb,
+            call,
             kind: mention.expected,
         }),
         _ => None,
@@ -97,7 +94,7 @@ fn use_by<'a>(
 /// Returns the use of a name at a place of a call's line.
 fn use_in<'a>(call: &'a CallLine, place: Place) -> Option<NameLookup<'a>> {
     for operand in &call.operands {
-        let used = use_by(operand, Some(&call.verb), place);
+        let used = use_by(operand, Some(call.kind), place);
         if used.is_some() {
             return used;
         }
@@ -109,7 +106,7 @@ fn use_in<'a>(call: &'a CallLine, place: Place) -> Option<NameLookup<'a>> {
 fn use_at<'a>(lines: &'a [NamedLine], place: Place) -> Option<NameLookup<'a>> {
     for line in lines {
         let (definition, used) = match line {
-            NamedLine::Aside(_) => continue,
+            NamedLine::Aside(_) | NamedLine::State(_) => continue,
             NamedLine::Thread(thread) => (&thread.definition, None),
             NamedLine::Call(call) => (&call.definition, use_in(call, place)),
         };
@@ -118,7 +115,7 @@ fn use_at<'a>(lines: &'a [NamedLine], place: Place) -> Option<NameLookup<'a>> {
             Some(definition) if definition.place == place => {
                 return Some(NameLookup {
                     name: &definition.name,
-                    verb: None,
+                    call: None,
                     kind: definition.kind,
                 });
             }
@@ -134,8 +131,7 @@ pub fn name_faults(lines: &[NamedLine], context: Context<'_>, faults: &[NameFaul
     for fault in faults.iter().take(MOST_FAULTS) {
         let place = fault.place;
         if let Some(used) = use_at(lines, place) {
-            let usage = used.usage(context.alloc)?;
-            let name = context.faulty_name(used.name, usage, used.kind, fault.error)?;
+            let name = context.faulty_name(used.name, used.usage(), used.kind, fault.error)?;
             told.push(Fault::new(place, NamesFault::Name(name)))?;
         }
     }
@@ -189,8 +185,7 @@ pub fn line_fault(alloc: Global, line: u64, fault: LineFault) -> NamedFaults {
 fn refusal_faults(alloc: Global, lined: &Lined, refusal: Refusal) -> NamedFaults {
     match refusal {
         Refusal::Memory | Refusal::Script(ScriptFault::NoMemory) => Err(AllocError),
-        Refusal::Names(faults) => {
-            let scope = Scope::after(alloc, lined.lines.as_slice())?;
+        Refusal::Names { faults, scope } => {
             let context = lined.context(&scope);
             name_faults(lined.lines.as_slice(), context, faults.as_slice())
         }
@@ -217,9 +212,9 @@ fn follows(fault: &NamesFault, faulty: &[&[u8]]) -> bool {
 
 /// Returns the faults of the names of lines, and then the faults of the names in their expectations.
 fn lined_faults(alloc: Global, lined: &Lined, extent: Extent) -> NamedFaults {
-    let plain = plain_of(alloc, lined.lines.as_slice())?;
-    let context = lined.context(&plain.scope);
-    let mut faults = name_faults(lined.lines.as_slice(), context, plain.faults.as_slice())?;
+    let resolved = resolve(alloc, lined.lines.as_slice())?;
+    let context = lined.context(&resolved.scope);
+    let mut faults = name_faults(lined.lines.as_slice(), context, resolved.faults.as_slice())?;
     let mut unmet = expectation_faults(context, lined.states.as_slice(), extent)?;
     faults.append(&mut unmet)?;
     Ok(faults)
@@ -274,16 +269,16 @@ fn read_lined(
     lined: &mut Lined,
     extent: Extent,
 ) -> Result<NamedReading, AllocError> {
-    let translation = match translate(alloc, lined.lines.as_slice()) {
-        Ok(translation) => translation,
+    let resolved = match translate(alloc, lined.lines.as_slice()) {
+        Ok(resolved) => resolved,
         Err(refusal) => return refusal_faults(alloc, lined, refusal).map(NamedReading::Faulty),
     };
     let calls = mem::replace(&mut lined.calls, Vec::new(alloc));
     let states = mem::replace(&mut lined.states, Vec::new(alloc));
     let mut named = NamedScript {
-        text: translation.text,
-        script: translation.script,
-        check: ExpectationCheck::new(alloc, translation.scope, calls, states),
+        text: resolved.text,
+        script: resolved.script,
+        check: ExpectationCheck::new(alloc, resolved.scope, calls, states),
         processes: Vec::new(alloc),
         lines: lined.count,
     };

@@ -5,6 +5,7 @@ use crate::hints::words::{
     BytesHint, ExpectedError, ExpectedNumber, ExpectedOperand, ExtraHint, UnknownCall,
 };
 use crate::line::LineKind;
+use qmodel::kind::CallKind;
 use qscript_text::fault::{LineFault, ScriptFault};
 use qscript_text::grammar::Form;
 use qscript_text::lexing::token::Token;
@@ -130,12 +131,12 @@ pub struct OtherKind {
 }
 
 /// The way in which a line uses a name.
-#[derive(Drop)]
+#[derive(Clone, Copy)]
 pub enum NameUsage {
     /// As the caller, before a call.
     Caller,
     /// As an operand of this call.
-    Operand(Word),
+    Operand(CallKind),
     /// In an expectation.
     Expectation,
 }
@@ -399,7 +400,10 @@ impl fmt::Display for OtherKind {
         }
         match &self.usage {
             NameUsage::Caller => f.write_str("a call begins with the thread that makes it")?,
-            NameUsage::Operand(verb) => write!(f, "'{verb}' expects {expected}")?,
+            NameUsage::Operand(call) => {
+                let call = call.word();
+                write!(f, "'{call}' expects {expected}")?
+            }
             NameUsage::Expectation => write!(f, "{expected} is expected here")?,
         }
         match self.expected {
