@@ -11,7 +11,7 @@ complete -c qdemo -n __fish_use_subcommand -a serve -d 'Runs a server and its cl
 complete -c qdemo -n __fish_use_subcommand -a help -d 'Print the help of a command'
 complete -c qdemo -n '__fish_seen_subcommand_from help; and not __fish_seen_subcommand_from script check play chart explore serve' -a 'script check play chart explore serve'
 complete -c qdemo -n 'not __fish_seen_subcommand_from help; and __fish_seen_subcommand_from script' -l explain -d 'Explain faulty lines, and for script also failed calls and waiting threads'
-complete -c qdemo -n 'not __fish_seen_subcommand_from help; and __fish_seen_subcommand_from script' -l json -d 'Print a JSON object in place of each line'
+complete -c qdemo -n 'not __fish_seen_subcommand_from help; and __fish_seen_subcommand_from script' -l json -d 'Print an object of JSON in each line'
 complete -c qdemo -n 'not __fish_seen_subcommand_from help; and __fish_seen_subcommand_from script' -l names -d 'Print names in place of numbers, as on a terminal'
 complete -c qdemo -n 'not __fish_seen_subcommand_from help; and __fish_seen_subcommand_from script' -l names-in -d 'Read a script with names, whatever the name of its file'
 complete -c qdemo -n 'not __fish_seen_subcommand_from help; and __fish_seen_subcommand_from script' -l plain -d 'Print a script with names as a plain script, and don\'t run it'
@@ -20,7 +20,7 @@ complete -c qdemo -n 'not __fish_seen_subcommand_from help; and __fish_seen_subc
 complete -c qdemo -n 'not __fish_seen_subcommand_from help; and __fish_seen_subcommand_from script' -F
 complete -c qdemo -n 'not __fish_seen_subcommand_from help; and __fish_seen_subcommand_from check' -l update -d 'Write the traces and verdicts that are missing or differ'
 complete -c qdemo -n 'not __fish_seen_subcommand_from help; and __fish_seen_subcommand_from check' -l explain -d 'Explain faulty lines, and for script also failed calls and waiting threads'
-complete -c qdemo -n 'not __fish_seen_subcommand_from help; and __fish_seen_subcommand_from check' -l json -d 'Print a JSON object in place of each line'
+complete -c qdemo -n 'not __fish_seen_subcommand_from help; and __fish_seen_subcommand_from check' -l json -d 'Print an object of JSON in each line'
 complete -c qdemo -n 'not __fish_seen_subcommand_from help; and __fish_seen_subcommand_from check' -s h -l help -d 'Print help (see more with \'--help\')'
 complete -c qdemo -n 'not __fish_seen_subcommand_from help; and __fish_seen_subcommand_from check' -F
 complete -c qdemo -n 'not __fish_seen_subcommand_from help; and __fish_seen_subcommand_from play' -l names -d 'Print names in place of numbers, as on a terminal'

@@ -79,11 +79,24 @@ pub fn serve<R: Threads + Wait + Clock + Eprint + Sync, S: RecordStore, W: Write
 ) -> Result<(), ServeFault>
     requires { Fit settings }
 {
+    let totals = totals_of(rt, alloc, settings, store)?;
+    tell(alloc, &totals, writer)
+}
+
+/// Runs a demonstration as `serve` does, stores its recording if one is made, and returns its results.
+pub fn totals_of<R: Threads + Wait + Clock + Eprint + Sync, S: RecordStore>(
+    rt: &R,
+    alloc: Global,
+    settings: Settings,
+    store: &mut S,
+) -> Result<Totals, ServeFault>
+    requires { Fit settings }
+{
     let outcome = outcome_of(rt, alloc, settings, Stacks::ample())?;
     if let Some(recording) = &outcome.recording {
         store.store(recording)?;
     }
-    tell(alloc, &outcome.totals, writer)
+    Ok(outcome.totals)
 }
 
 /// Writes the five lines of results, and five more of times if they were taken.

@@ -20,7 +20,7 @@ use qkernel::kernel::Kernel;
 use qkernel::open_call::Blocked;
 use qscript::run::Run;
 use qscript_explain::history::{CallHistory, PastCall};
-use qscript_names::wording::Context;
+use qscript_names::context::Context;
 use std::alloc::{AllocError, Global};
 
 /// The facts about the calls so far that later rows need.

@@ -1,5 +1,7 @@
 pub mod Names
+pub mod NameFaults
 pub mod Scope
 pub mod Plain
+pub mod Resolution
 pub mod Translation
 pub mod NamesLaws

@@ -10,7 +10,7 @@ const EXPLAIN: &str =
     "explain: Explain faulty lines, and for script also failed calls and waiting threads";
 
 /// The option that prints JSON: its name and its help.
-const JSON: &str = "json: Print a JSON object in place of each line";
+const JSON: &str = "json: Print an object of JSON in each line";
 
 /// The option that reads names: its name and its help.
 const NAMES_IN: &str = "names-in: Read a script with names, whatever the name of its file";

@@ -3,8 +3,10 @@
 ghost use Rattle.std.specs.Prelude.{◌≤◌, length};
 
 use crate::expectation::{ExpectedCompletion, ExpectedResult};
-use crate::hints::{error_words, number_words};
+use crate::hints::words::{ExpectedError, ExpectedNumber};
+use crate::hints::{code_meant, error_meant};
 use crate::line::{LineKind, Operand};
+use crate::names_fault::{NamesExpected, NamesFault, NamesRead, expected, of_text};
 use crate::reading::operands::id;
 use qbase::bytes::Bytes;
 use qbase::errno;
@@ -13,11 +15,11 @@ use qscript_text::fault::ParseError;
 use qscript_text::grammar::{CALL_ERRORS, OperandKind as Slot, errno_of};
 use qscript_text::lexing::name::is_name;
 use qscript_text::lexing::token::{Token, TokenKind};
-use qscript_text::lexing::values::{expected, size_of, text_bytes, word_of};
-use qscript_text::near::{no_such, quotation};
-use qscript_text::place::{ReadError, fault_at};
+use qscript_text::lexing::values::{size_of, text_bytes, word_of};
+use qscript_text::place::fault_at;
 use qscript_text::reading::bytes::bytes_said;
 use qscript_text::reading::number::signed_number;
+use qscript_text::text_fault::UnknownWord;
 use std::alloc::{AllocError, Global};
 
 /// The sort of a part after the first word of a result.
@@ -89,39 +91,32 @@ fn form_of(table: Table, token: &Token<'_>) -> Option<(&'static str, &'static [P
     rows.find(|(word, _)| token.is_word(word))
 }
 
-fn number(alloc: Global, token: &Token<'_>) -> Result<i128, ReadError> {
+fn number(alloc: Global, token: &Token<'_>) -> NamesRead<i128> {
     match signed_number(token.bytes) {
         Some(value) if token.sort == TokenKind::Word => Ok(value),
         _ => {
-            let words = number_words(alloc, token.bytes)?;
-            Err(expected(alloc, token, words.as_str()))
+            let number = ExpectedNumber(code_meant(token.bytes));
+            Err(expected(alloc, token, NamesExpected::Number(number)))
         }
     }
 }
 
 /// Reads the name of an error.
-fn errno(alloc: Global, token: &Token<'_>) -> Result<&'static str, ReadError> {
+fn errno(alloc: Global, token: &Token<'_>) -> NamesRead<&'static str> {
     if token.sort == TokenKind::Word
         && let Some(errno) = errno_of(token.bytes)
     {
         return Ok(errno::word(errno));
     }
     let errors = ERRNOS.iter().take(CALL_ERRORS);
-    let words: Vec<&str> = errors.map(|errno| errno::word(*errno)).collect(alloc)?;
-    let word = quotation(token.bytes);
-    let all = error_words(alloc, token.bytes)?;
-    let what = no_such(
-        alloc,
-        word,
-        words.as_slice(),
-        "isn't an error",
-        all.as_str(),
-    );
-    Err(fault_at(token.place, what))
+    let words: Vec<&'static str> = errors.map(|errno| errno::word(*errno)).collect(alloc)?;
+    let unknown = UnknownWord::of(alloc, token.bytes, words.as_slice())?;
+    let meant = ExpectedError(error_meant(alloc, token.bytes)?);
+    Err(fault_at(token.place, NamesFault::Error(unknown, meant)))
 }
 
 /// Reads a name, which matches its number, or reads a number.
-fn named(alloc: Global, kind: LineKind, token: &Token<'_>) -> Result<ExpectedResult, ReadError> {
+fn named(alloc: Global, kind: LineKind, token: &Token<'_>) -> NamesRead<ExpectedResult> {
     if token.bytes.first().is_some_and(|b| b.is_ascii_digit()) {
         return Ok(ExpectedResult::Number(number(alloc, token)?));
     }
@@ -132,21 +127,24 @@ fn named(alloc: Global, kind: LineKind, token: &Token<'_>) -> Result<ExpectedRes
 }
 
 /// Reads the name or the number of a process.
-fn process(alloc: Global, token: &Token<'_>) -> Result<ExpectedResult, ReadError> {
+fn process(alloc: Global, token: &Token<'_>) -> NamesRead<ExpectedResult> {
     if token.sort == TokenKind::Word && is_name(token.bytes) {
         return Ok(ExpectedResult::Process(word_of(alloc, token.bytes)?));
     }
     Ok(ExpectedResult::Number(number(alloc, token)?))
 }
 
-fn bytes(alloc: Global, token: &Token<'_>) -> Result<Bytes, ReadError> {
+fn bytes(alloc: Global, token: &Token<'_>) -> NamesRead<Bytes> {
     let said = match token.sort {
-        TokenKind::Text => return text_bytes(alloc, token),
-        TokenKind::Size => return Ok(Bytes::filled(alloc, 0, size_of(alloc, token)? as usize)?),
+        TokenKind::Text => return text_bytes(alloc, token).map_err(of_text),
+        TokenKind::Size => {
+            let count = size_of(alloc, token).map_err(of_text)?;
+            return Ok(Bytes::filled(alloc, 0, count as usize)?);
+        }
         TokenKind::Word => bytes_said(alloc, token.bytes),
         _ => Err(ParseError::Memory),
     };
-    said.map_err(|_| expected(alloc, token, "expected bytes, or * for any"))
+    said.map_err(|_| expected(alloc, token, NamesExpected::CompletionBytes))
 }
 
 /// The patterns of a result.
@@ -158,7 +156,7 @@ struct Patterns {
 
 impl Patterns {
     /// Adds the patterns of a part of a line. `Content` has two patterns: the printed count, and the bytes.
-    fn add(&mut self, part: Part, token: &Token<'_>) -> Result<(), ReadError> {
+    fn add(&mut self, part: Part, token: &Token<'_>) -> NamesRead<()> {
         let alloc = self.alloc;
         let pattern = match part {
             _ if token.is_word("*") => Ok(ExpectedResult::Any),
@@ -185,14 +183,10 @@ impl Patterns {
         word: &'static str,
         parts: &[Part],
         rest: &[Token<'_>],
-    ) -> Result<(), ReadError> {
+    ) -> NamesRead<()> {
         self.all.push(ExpectedResult::Word(word))?;
         if let Some(extra) = rest.get(parts.len()) {
-            return Err(expected(
-                self.alloc,
-                extra,
-                "expected no more words in this completion",
-            ));
+            return Err(expected(self.alloc, extra, NamesExpected::CompletionEnd));
         }
         for (part, token) in parts.iter().zip(rest) {
             self.add(*part, token)?;
@@ -201,31 +195,36 @@ impl Patterns {
     }
 
     /// Adds the patterns of a word of a table and of the parts after it, or nothing if there are no tokens.
-    /// `words` is the message about a word that isn't in the table.
-    fn add_of(&mut self, table: Table, tokens: &[Token<'_>], words: &str) -> Result<(), ReadError> {
+    /// `content` is what a word that isn't in the table should be.
+    fn add_of(
+        &mut self,
+        table: Table,
+        tokens: &[Token<'_>],
+        content: NamesExpected,
+    ) -> NamesRead<()> {
         let [word, rest @ ..] = tokens else {
             return Ok(());
         };
         match form_of(table, word) {
             Some((word, parts)) => self.add_word(word, parts, rest),
-            None => Err(expected(self.alloc, word, words)),
+            None => Err(expected(self.alloc, word, content)),
         }
     }
 
     /// Adds the patterns of the result `state`. The state of the thread may be left out.
-    fn add_state(&mut self, word: &'static str, content: &[Token<'_>]) -> Result<(), ReadError> {
+    fn add_state(&mut self, word: &'static str, content: &[Token<'_>]) -> NamesRead<()> {
         self.add_word(word, &[], &[])?;
-        self.add_of(&STATES, content, "expected ready, send, receive or reply")
+        self.add_of(&STATES, content, NamesExpected::CompletionState)
     }
 
     /// Adds the patterns of a pulse: its call and its priority, which may be left out, and its content.
-    fn add_pulse(&mut self, parts: &[Part], tokens: &[Token<'_>]) -> Result<(), ReadError> {
+    fn add_pulse(&mut self, parts: &[Part], tokens: &[Token<'_>]) -> NamesRead<()> {
         let (front, content) = tokens.split_at(pulse_len(tokens));
         self.add_word("pulse", parts, front)?;
         for _ in front.len()..parts.len() {
             self.all.push(ExpectedResult::Any)?;
         }
-        self.add_of(&PULSES, content, "expected user, unblock or disconnect")
+        self.add_of(&PULSES, content, NamesExpected::PulseContent)
     }
 }
 
@@ -242,13 +241,11 @@ fn pulse_len(tokens: &[Token<'_>]) -> usize
     }
 }
 
-/// Returns the message about a first word that no result has.
-fn unknown_completion(alloc: Global, token: &Token<'_>) -> Result<String, AllocError> {
-    let words: Vec<&str> = FORMS.iter().map(|(word, _)| *word).collect(alloc)?;
-    let word = quotation(token.bytes);
-    let all =
-        "expected ok, fail, channel, connection, message, pulse, reply, error, count, state, info or blocked";
-    no_such(alloc, word, words.as_slice(), "isn't a completion", all)
+/// Returns the fault of a first word that no result has.
+fn unknown_completion(alloc: Global, token: &Token<'_>) -> Result<NamesFault, AllocError> {
+    let words: Vec<&'static str> = FORMS.iter().map(|(word, _)| *word).collect(alloc)?;
+    let unknown = UnknownWord::of(alloc, token.bytes, words.as_slice())?;
+    Ok(NamesFault::Completion(unknown))
 }
 
 /// Reads the expected result of a call.
@@ -256,9 +253,9 @@ pub fn completion(
     alloc: Global,
     first: &Token<'_>,
     rest: &[Token<'_>],
-) -> Result<ExpectedCompletion, ReadError> {
+) -> NamesRead<ExpectedCompletion> {
     let Some((word, parts)) = form_of(&FORMS, first) else {
-        return Err(fault_at(first.place, unknown_completion(alloc, first)));
+        return Err(fault_at(first.place, unknown_completion(alloc, first)?));
     };
     let mut patterns = Patterns {
         alloc,

@@ -1,5 +1,5 @@
 use Rattle.qscript_names.proofs.Common.{◌≡◌, drop, operands_fault}
-use Rattle.qscript_names.proofs.plain.fault_of_operands.Given as goal
+use Rattle.qscript_names.proofs.resolution.fault_of_operands.Given as goal
 
 abbrev pub invariant-operands : goal.invariant-operands
 invariant-operands l =

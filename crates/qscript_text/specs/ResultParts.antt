@@ -1,13 +1,34 @@
--- The words of a result.
+-- The words of a result, and the parts that they are made of.
 use Rattle.std.specs.Prelude.{ℕ, List, [], ◌∷◌, ◌++◌, codes, decimal}
 use Rattle.std.specs.Fmt.{signed_decimal}
 use Rattle.qbase.specs.Errno.{word_of}
 use Rattle.qbase.specs.declared.state.ThreadState.{ThreadState}
+use Rattle.qbase.specs.declared.state.ThreadState.TheVariants.{Ready, SendBlocked, ReceiveBlocked}
+use Rattle.qbase.specs.declared.state.ThreadState.TheVariants.{ReplyBlocked}
 use Rattle.qqueue.specs.declared.item.What.{What}
 use Rattle.qqueue.specs.declared.item.What.TheVariants.{Message, User, Unblock, Disconnect}
 use Rattle.qmodel.specs.declared.call.Mark.{Mark}
 use Rattle.qmodel.specs.declared.call.Mark.TheVariants as marks
-use Rattle.qscript.specs.Printing.State.{state_words}
+use Rattle.qscript_text.specs.declared.result_parts.ResultPart.{ResultPart}
+use Rattle.qscript_text.specs.declared.result_parts.ResultPart.TheVariants as parts
+
+-- the word for a part of a result
+abbrev pub part_word : ResultPart → List ℕ
+part_word (parts.Word word) = word.now
+part_word (parts.Signed z) = signed_decimal z
+part_word (parts.Number n) = decimal n
+part_word (parts.Id n) = decimal n
+part_word (parts.Thread n) = decimal n
+part_word (parts.Process n) = decimal n
+part_word (parts.Copied n) = decimal n
+part_word (parts.Counted n) = decimal n
+
+-- the word of the state, and its channel
+abbrev pub state_words : ThreadState → List (List ℕ)
+state_words Ready = codes "ready" ∷ []
+state_words (SendBlocked chid) = codes "send" ∷ decimal chid ∷ []
+state_words (ReceiveBlocked chid) = codes "receive" ∷ decimal chid ∷ []
+state_words (ReplyBlocked chid) = codes "reply" ∷ decimal chid ∷ []
 
 -- the content of a pulse: a code and a value, the message whose sender is to be unblocked, or the process
 -- that detached
