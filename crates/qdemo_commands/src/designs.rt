@@ -1,5 +1,6 @@
 //! Unproved: words and layout. Explores the design of a file: every interleaving of its threads.
 
+pub mod picture;
 mod search_end;
 
 use crate::colours::{Mood, marks};
@@ -11,7 +12,7 @@ use crate::json::verdicts::verdict_of;
 use crate::remarks;
 use qexplore::explore::Observer;
 use qexplore_design::design_fault::DesignFault;
-use qexplore_design::verdict::words::DesignSource;
+use qexplore_design::verdict::words::{DesignSource, VerdictWords};
 use qexplore_design::{DesignReading, read};
 use qexplore_listing::listing::listing;
 use qexplore_programs::design::Design;
@@ -36,6 +37,15 @@ impl Observer for Nobody {
     fn see(&mut self, _count: usize) {}
 }
 
+/// The output of a search.
+#[derive(Drop)]
+enum SearchOutput {
+    /// The verdict in words.
+    Words(VerdictWords),
+    /// A script, or a line of JSON.
+    Text(String),
+}
+
 /// The output of a search, or the faults of a design that can't be read.
 pub type Reported = Result<String, Vec<Fault<DesignFault>>>;
 
@@ -57,7 +67,7 @@ pub fn words_of(alloc: Global, file: &str, text: &[u8]) -> Result<Reported, Allo
         ..ExploreRun::default()
     };
     let ended = search(&run, source, &mut Nobody)?;
-    Ok(Ok(ended.words(&run, source)?))
+    Ok(Ok(ended.words(source, false)?.text()?))
 }
 
 /// Returns whether a file has a design, judged by its name.
@@ -177,7 +187,7 @@ fn explore_source<R: Print + Eprint + AllocGlobal>(
     }
     let told = told_of(rt, run, source);
     let (told, status) = told.map_err(|_| end_failed(rt, "out of memory"))?;
-    print_told(rt, run, told.as_str(), status)
+    print_told(rt, run, &told, status)
 }
 
 /// Makes the requested search, and returns its output and the exit status.
@@ -185,50 +195,62 @@ fn told_of<R: Eprint + AllocGlobal>(
     rt: &R,
     run: &ExploreRun,
     source: DesignSource<'_>,
-) -> Result<(String, u8), AllocError> {
+) -> Result<(SearchOutput, u8), AllocError> {
     let ended = search_shown(rt, run, source)?;
-    let told = if run.json {
-        line_of(source.alloc, &ended.verdict(source)?)
+    let text = if run.json {
+        Some(line_of(source.alloc, &ended.verdict(source)?)?)
+    } else if run.script {
+        ended.script(source, run.names)?
     } else {
-        ended.words(run, source)
+        None
     };
-    Ok((told?, ended.status()))
+    let told = match text {
+        Some(text) => SearchOutput::Text(text),
+        None => SearchOutput::Words(ended.words(source, run.names)?),
+    };
+    Ok((told, ended.status()))
 }
 
-/// Prints the output of a search, and returns its exit status. If `--script` has no run to print, the output
-/// goes to standard error.
+/// Prints the output of a search, and returns its exit status. If `--script` has no run to print, the words
+/// go to standard error.
 fn print_told<R: Print + Eprint + AllocGlobal>(
     rt: &R,
     run: &ExploreRun,
-    told: &str,
+    told: &SearchOutput,
     status: u8,
 ) -> Result<ExitCode, ExitCode> {
-    if run.json {
-        print_text(rt, told)?;
-    } else if run.script && status != 1 {
-        let _ = eprint!(rt; "{told}");
-    } else {
-        let painted = painted(rt.alloc(), run, told, status);
-        let painted = painted.map_err(|_| end_failed(rt, "out of memory"))?;
-        print_text(rt, painted.as_str())?;
+    match told {
+        SearchOutput::Text(text) => print_text(rt, text.as_str())?,
+        SearchOutput::Words(words) if run.script => {
+            let _ = eprint!(rt; "{}\n{}", words.headline, words.details);
+        }
+        SearchOutput::Words(words) => {
+            let painted = painted(rt.alloc(), run, words, status);
+            let painted = painted.map_err(|_| end_failed(rt, "out of memory"))?;
+            print_text(rt, painted.as_str())?;
+        }
     }
     Ok(ExitCode::from(status))
 }
 
-/// Returns the output of a search. Its first line has the colour of the outcome.
-fn painted(alloc: Global, run: &ExploreRun, words: &str, status: u8) -> Result<String, AllocError> {
+/// Returns the words of a search. The first line has the colour of the outcome.
+fn painted(
+    alloc: Global,
+    run: &ExploreRun,
+    words: &VerdictWords,
+    status: u8,
+) -> Result<String, AllocError> {
     let mood = match status {
         0 => Mood::Good,
         1 => Mood::Bad,
         _ => Mood::Unsure,
     };
-    let (begin, end) = marks(mood, run.screen.colours.output && !run.script);
-    let (first, rest) = words.split_once('\n').unwrap_or((words, ""));
-    format!(in alloc; "{begin}{first}{end}\n{rest}")
+    let (begin, end) = marks(mood, run.screen.colours.output);
+    format!(in alloc; "{begin}{}{end}\n{}", words.headline, words.details)
 }
 
 /// Makes the requested search and shows its progress.
-fn search_shown<R: Eprint + AllocGlobal>(
+pub fn search_shown<R: Eprint + AllocGlobal>(
     rt: &R,
     run: &ExploreRun,
     source: DesignSource<'_>,

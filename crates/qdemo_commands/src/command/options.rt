@@ -124,7 +124,10 @@ fn chart_command<'a>(alloc: Global) -> Build<'a> {
     let to = "Number of the last call to draw";
     let help = "The drawing's file; standard output if missing or -";
     let command = subcommand(alloc, "chart", &CHART)
-        .arg(file(alloc, "The script's file; standard input if missing or -"))?
+        .arg(file(
+            alloc,
+            "The file of the script or the design; standard input if missing or -",
+        ))?
         .arg(option(alloc, "output", "FILE", help).short('o'))?;
     with_flags(alloc, command, &flags)?
         .arg(number(alloc, "from", "N", call, from).default_value("1"))?

@@ -6,7 +6,7 @@ use qexplore::explore::{Observer, explore};
 use qexplore::random::try_some;
 use qexplore::verdict::Verdict;
 use qexplore::violation::Counterexample;
-use qexplore_design::verdict::words::{DesignSource, found_script};
+use qexplore_design::verdict::words::{DesignSource, VerdictWords, found_script};
 use serde_json::Value;
 use std::alloc::AllocError;
 
@@ -34,17 +34,49 @@ impl SearchEnd {
         }
     }
 
-    /// Returns the outcome in words, or only the run that shows a violation.
-    pub fn words(&self, run: &ExploreRun, source: DesignSource<'_>) -> Result<String, AllocError> {
+    /// Returns the outcome in words. The run that shows a violation has names if `in_names` is set.
+    pub fn words(
+        &self,
+        source: DesignSource<'_>,
+        in_names: bool,
+    ) -> Result<VerdictWords, AllocError> {
         match self {
             SearchEnd::Searched(Verdict::Found(found)) => {
-                fault_of(run, source, found, "a shortest run")
+                source.found_words(found, "a shortest run", in_names)
             }
             SearchEnd::Searched(Verdict::Nothing(summary)) => source.nothing_words(summary),
             SearchEnd::Searched(Verdict::GaveUp(tally)) => source.gave_up_words(*tally),
-            SearchEnd::RandomFound(found) => fault_of(run, source, found, "a run"),
+            SearchEnd::RandomFound(found) => source.found_words(found, "a run", in_names),
             SearchEnd::RandomNothing { count, seed } => source.chance_words(*count, *seed),
         }
+    }
+
+    /// Returns the violation, if there is one.
+    pub fn found(&self) -> Option<&Counterexample> {
+        match self {
+            SearchEnd::Searched(Verdict::Found(found)) | SearchEnd::RandomFound(found) => Some(
+                found,
+            ),
+            _ => None,
+        }
+    }
+
+    /// Returns the run that shows a violation as a script, with names if `in_names` is set. `None` if there
+    /// is no violation.
+    pub fn script(
+        &self,
+        source: DesignSource<'_>,
+        in_names: bool,
+    ) -> Result<Option<String>, AllocError> {
+        let Some(found) = self.found() else {
+            return Ok(None);
+        };
+        let script = if in_names {
+            source.found_script_with_names(found)?
+        } else {
+            found_script(source, found)?
+        };
+        Ok(Some(script))
     }
 
     /// Returns the outcome as an object of JSON.
@@ -76,18 +108,4 @@ pub fn search<W: Observer>(
     let most = run.most as usize;
     let verdict = explore(alloc, design, most, !run.no_symmetry, progress)?;
     Ok(SearchEnd::Searched(verdict))
-}
-
-/// Returns the output for a fault. `which` describes the run that shows it, such as `a shortest run`.
-fn fault_of(
-    run: &ExploreRun,
-    source: DesignSource<'_>,
-    found: &Counterexample,
-    which: &str,
-) -> Result<String, AllocError> {
-    match (run.script, run.names) {
-        (true, true) => source.found_script_with_names(found),
-        (true, false) => found_script(source.alloc, source.design, found),
-        (false, names) => source.found_words(found, which, names),
-    }
 }

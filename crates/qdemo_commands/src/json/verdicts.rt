@@ -6,13 +6,12 @@ use crate::json::threads::threads_of;
 use crate::json::violations::{ShownViolation, end_of};
 use crate::json::{Added, Record};
 use qexplore::counts::SearchCounts;
+use qexplore::replay::NoObserver;
 use qexplore::verdict::Summary;
 use qexplore::violation::Counterexample;
 use qexplore_design::verdict::chosen_names::ScriptNames;
 use qexplore_design::verdict::replay::{DesignSource, Replay};
-use qexplore_design::verdict::run::run_of_found;
 use qexplore_design::verdict::violation::loop_calls;
-use qkernel::trace::Trace;
 use serde_json::Value;
 use std::alloc::{AllocError, Global};
 
@@ -52,7 +51,7 @@ pub fn nothing_verdict(source: DesignSource<'_>, summary: &Summary) -> Result<Va
 fn ends_of(source: DesignSource<'_>, ways: &[Vec<usize>]) -> Result<Value, AllocError> {
     let mut ends: Vec<Value> = Vec::new(source.alloc);
     for way in ways {
-        let end = end_of(&Replay::of(source, way.as_slice())?)?;
+        let end = end_of(&Replay::of(source, way.as_slice(), &mut NoObserver)?)?;
         if !ends.contains(&end) {
             ends.push(end)?;
         }
@@ -92,9 +91,8 @@ pub fn found_verdict(
     let mut verdict = verdict_of(source.alloc, source.file, "fault")?;
     verdict.set("counts", calls_of(source, found)?)?;
     verdict.set("is_shortest", is_shortest)?;
-    let replay = Replay::of(source, found.way.as_slice())?;
-    let run = run_of_found(source.alloc, source.design, found)?;
-    add_run(&mut verdict, &replay, &run, found)?;
+    let replay = Replay::of_found(source, found, &mut NoObserver)?;
+    add_run(&mut verdict, &replay, found)?;
     Ok(verdict.into_value())
 }
 
@@ -111,13 +109,8 @@ fn calls_of(source: DesignSource<'_>, found: &Counterexample) -> Result<Value, A
 }
 
 /// Adds the violation, the run that shows it, and the threads at its end.
-fn add_run(
-    verdict: &mut Record,
-    replay: &Replay<'_>,
-    run: &Trace,
-    found: &Counterexample,
-) -> Added {
-    let names = ScriptNames::of(replay, run)?;
+fn add_run(verdict: &mut Record, replay: &Replay<'_>, found: &Counterexample) -> Added {
+    let names = ScriptNames::of(replay)?;
     let names = DesignNames {
         replay,
         names: &names,
@@ -129,6 +122,6 @@ fn add_run(
         waits: waits.as_slice(),
     };
     verdict.set("fault", shown.record(found.violation)?)?;
-    verdict.set("run", events_of(replay.alloc, run, &names)?)?;
+    verdict.set("run", events_of(replay.alloc, &replay.trace, &names)?)?;
     verdict.set("threads", threads_of(replay, waits.as_slice(), &names)?)
 }
