@@ -1,7 +1,7 @@
 //! The operations of the tokens. `atomic_table` makes every load, store and exchange of a word sequentially
 //! consistent. A comment at each says which weaker order would be enough.
 
-ghost use Rattle.std.specs.Prelude.{◌≡◌, ◌<◌, ◌++◌, [], ◌∷◌, true, false, MatchBool, MatchOption};
+ghost use Rattle.std.specs.Prelude.{◌≡◌, ◌<◌, ◌++◌, [], ◌∷◌, true, false, IfSome, MatchBool, MatchOption};
 ghost use Rattle.std.specs.Bool.{OnTrue};
 ghost use Rattle.qhandoff.specs.Rule.{line};
 ghost use Rattle.qhandoff.specs.Steps.{opened_kernel_view, cancelled_kernel_view, put_kernel_view, IsBusy};
@@ -9,6 +9,7 @@ ghost use Rattle.qhandoff.specs.Words.{count, kernel_view, taken, kernel_id, thr
 ghost use Rattle.qhandoff.specs.Words.{IsKernelOf, IsThreadOf};
 
 use crate::cells::{Cells, word_of};
+use crate::delivered::Delivered;
 use crate::seats::{KernelSeat, ThreadSeat};
 use crate::steps::{BeginPut, Cancel, EndPut, GiveBack, Open, Take};
 
@@ -21,7 +22,7 @@ const OPENED: u64 = 1;
 /// The cell has a completion that was put and isn't taken yet.
 const FULL: u64 = 2;
 
-impl<T: Drop> KernelSeat<T> {
+impl<T: Delivered> KernelSeat<T> {
     /// Opens the cell of a thread and returns `true`. Returns `false` and changes nothing if the cell isn't
     /// idle: it is opened already, or its completion isn't taken yet.
     pub fn open(&mut self, cells: &Cells<T>, thread: usize) -> bool
@@ -64,6 +65,7 @@ impl<T: Drop> KernelSeat<T> {
         requires cells { IsKernelOf cells.now self.old }
         requires thread { thread < count cells.now }
         requires opened { (line (kernel_view self.old) thread).opened ≡ true }
+        requires allowed { T.may_be_put thread ((line (kernel_view self.old) thread).put ++ completion ∷ []) }
         ensures cells { kernel_id self.new ≡ kernel_id self.old }
         ensures kernel_view { kernel_view self.new ≡ put_kernel_view
             (kernel_view self.old) thread completion }
@@ -80,7 +82,7 @@ impl<T: Drop> KernelSeat<T> {
     }
 }
 
-impl<T: Drop> ThreadSeat<T> {
+impl<T: Delivered> ThreadSeat<T> {
     /// Returns the index of the thread, which is the index of its cell.
     pub fn thread(&self) -> usize
         ensures number { result ≡ thread_of self.now }
@@ -97,6 +99,7 @@ impl<T: Drop> ThreadSeat<T> {
         ensures thread { thread_of self.new ≡ thread_of self.old }
         ensures taken { MatchOption result (taken self.new ≡ taken self.old)
             (λ x. taken self.new ≡ taken self.old ++ x ∷ []) }
+        ensures allowed { IfSome result (λ x. T.may_be_put (thread_of self.old) (taken self.new)) }
     {
         let shared = &cells.table.shared;
         let thread = self.thread;

@@ -3,6 +3,7 @@
 ghost use Rattle.std.specs.Prelude.{◌≡◌, ◌*◌, ◌<◌, ◌≤◌, [], vec_capacity};
 ghost use Rattle.qhandoff.specs.Rule.{cell_of};
 
+use crate::delivered::Delivered;
 use crate::steps::HandOff;
 use crate::view::View;
 use atomic_table::Table;
@@ -25,7 +26,7 @@ pub(crate) fn word_of(thread: usize) -> usize
 
 /// One cell for each thread, and the memory that `close` needs.
 #[derive(Drop)]
-pub struct Cells<T: Drop> {
+pub struct Cells<T: Delivered> {
     pub(crate) table: Table<Option<T>, View<T>, usize, HandOff, Global>,
     pub(crate) room: Vec<(usize, T)>,
     ghost keyed: { table.shared.key ≡ table.shared.table_id.slots },

@@ -11,6 +11,7 @@ ghost use Rattle.qhandoff.specs.Words.{cells_id, count, kernel_view, taken, took
 ghost use Rattle.qhandoff.specs.Words.{thread_id, thread_of, Rises, AreBelow, IsKernelOf, IsRow};
 
 use crate::cells::Cells;
+use crate::delivered::Delivered;
 use crate::seats::{KernelSeat, ThreadSeat};
 use crate::steps::{HandOff, JoinOne};
 use crate::view::View;
@@ -18,7 +19,7 @@ use atomic_table::{Closed, Seat, Shared};
 use std::alloc::Global;
 
 /// Joins one thread's token, so that the kernel's token knows the completions that this thread took.
-fn join_one<T: Drop>(
+fn join_one<T: Delivered>(
     shared: &Shared<Option<T>, View<T>, usize, HandOff>,
     seat: &mut Seat<Option<T>, View<T>>,
     other: ThreadSeat<T>,
@@ -42,7 +43,7 @@ fn join_one<T: Drop>(
 }
 
 /// Joins the tokens of all threads, beginning with the last.
-fn join_all<T: Drop>(
+fn join_all<T: Delivered>(
     shared: &Shared<Option<T>, View<T>, usize, HandOff>,
     seat: &mut Seat<Option<T>, View<T>>,
     mut threads: Vec<ThreadSeat<T>>,
@@ -66,7 +67,7 @@ fn join_all<T: Drop>(
 }
 
 /// Appends the value of one slot with its thread, if the slot has a value.
-fn keep<T: Drop>(room: &mut Vec<(usize, T)>, thread: usize, value: Option<T>)
+fn keep<T: Delivered>(room: &mut Vec<(usize, T)>, thread: usize, value: Option<T>)
     requires { length room.old.items < vec_capacity room.old }
     ensures { (room.new.items ≡ room.old.items ++ tagged thread value)
         × (vec_capacity room.new ≡ vec_capacity room.old) }
@@ -77,7 +78,7 @@ fn keep<T: Drop>(room: &mut Vec<(usize, T)>, thread: usize, value: Option<T>)
 }
 
 /// Returns the completions in the slots, each with its thread, in ascending order of thread index.
-fn collect<T: Drop>(
+fn collect<T: Delivered>(
     mut closed: Closed<Option<T>, Global>,
     mut room: Vec<(usize, T)>,
 ) -> Vec<(usize, T)>
@@ -97,7 +98,7 @@ fn collect<T: Drop>(
     room
 }
 
-impl<T: Drop> Cells<T> {
+impl<T: Delivered> Cells<T> {
     /// Returns the number of cells, one for each thread.
     pub fn threads(&self) -> usize
         ensures { result ≡ count self.now }

@@ -9,6 +9,7 @@ ghost use Rattle.qhandoff.specs.Words.{cells_id, count, kernel_view, taken, took
 ghost use Rattle.qhandoff.specs.Words.{IsKernelOf, IsRow};
 
 use crate::cells::{Cells, STRIDE};
+use crate::delivered::Delivered;
 use crate::seats::{KernelSeat, ThreadSeat};
 use crate::steps::{HandOff, SeatOne};
 use crate::view::View;
@@ -23,7 +24,7 @@ const LIMIT: usize = 64;
 type Made<T> = (Cells<T>, KernelSeat<T>, Vec<ThreadSeat<T>>);
 
 /// Splits off the token of the next thread.
-fn next_seat<T: Drop>(
+fn next_seat<T: Delivered>(
     shared: &Shared<Option<T>, View<T>, usize, HandOff>,
     seat: &mut Seat<Option<T>, View<T>>,
     thread: usize,
@@ -43,7 +44,7 @@ fn next_seat<T: Drop>(
 }
 
 /// Makes `threads` idle cells and their tokens, with the memory that `close` needs.
-fn make_cells<T: Drop>(alloc: Global, threads: usize) -> Result<Made<T>, AllocError>
+fn make_cells<T: Delivered>(alloc: Global, threads: usize) -> Result<Made<T>, AllocError>
     requires { threads ≤ 64 }
     ensures cells { IfOk result
         (λ r. (count r.0 ≡ threads) × IsKernelOf r.0 r.1
@@ -61,7 +62,7 @@ fn make_cells<T: Drop>(alloc: Global, threads: usize) -> Result<Made<T>, AllocEr
     Ok((Cells { table, room }, KernelSeat { seat }, seats))
 }
 
-impl<T: Drop> Cells<T> {
+impl<T: Delivered> Cells<T> {
     /// Makes idle cells for `threads` threads, at most 64. Returns them with the token that fills them and,
     /// for each thread, the token that empties its cell. Takes the memory that `close` needs, too.
     ///

@@ -6,14 +6,15 @@ ghost use Rattle.qhandoff.specs.Steps.{first_view, seats_one_more, next_thread_v
 ghost use Rattle.qhandoff.specs.Steps.{CancelTells, BeginPutTells, EndPutTells, TakeTells, GiveBackTells};
 ghost use Rattle.qhandoff.specs.declared.view.View.TheVariants.{Joined};
 
+use crate::delivered::Delivered;
 use crate::view::View;
 use atomic_table::{Join, Play, Split, TableRule};
 
 /// The rule that holds between any two steps.
 pub struct HandOff;
 
-impl<T> TableRule<Option<T>, View<T>, usize> for HandOff {
-    ghost holds = { KeepsRule };
+impl<T: Delivered> TableRule<Option<T>, View<T>, usize> for HandOff {
+    ghost holds = { KeepsRule T.may_be_put };
 
     ghost first = { first_view };
 }
@@ -68,8 +69,8 @@ impl<T> Play<Option<T>, View<T>> for EndPut {
 /// A thread's token begins to take the completion out of its full cell, and holds its slot until `GiveBack`.
 pub struct Take;
 
-impl<T> Play<Option<T>, View<T>> for Take {
-    ghost then = { TakeTells };
+impl<T: Delivered> Play<Option<T>, View<T>> for Take {
+    ghost then = { TakeTells T.may_be_put };
 }
 
 /// A thread's token has taken the completion, and releases the slot.
