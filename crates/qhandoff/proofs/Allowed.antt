@@ -135,10 +135,11 @@ module _ {T : Type 0} {P : ℕ → List T → Type 0} where
   taken_allowed n t s k h x is full = subst (λ u. P u (h.taken ++ x ∷ [])) (sym is)
       (⊎_elim (λ none. absurd (longer _ h.taken x full none)) (λ fine. subst (P t) full fine) (k.allowed t))
 
-  takes_here : (n id t : ℕ) (h : ThreadView T) → h.thread ≡ t → t < n → h.taking ≡ None
+  takes_here : (Q : ℕ → List T → Type 0) → ((u : ℕ) (xs : List T) → P u xs → Q u xs) → (n id t : ℕ) (h : ThreadView T)
+      → h.thread ≡ t → t < n → h.taking ≡ None
       → Allows (KeepsRule P n) n id (Thread h, []) (word_of t) (λ m. m)
-      (TakeTells P (step n (word_of t) 0 0 none) (Thread h, []))
-  takes_here n id t h is near idle s k long at small = let m : ℕ = get_or s.words (word_of t) 0 in
+      (TakeTells Q (step n (word_of t) 0 0 none) (Thread h, []))
+  takes_here Q told n id t h is near idle s k long at small = let m : ℕ = get_or s.words (word_of t) 0 in
       let l = line k.kernel_view t in
       let fit = thread_sees n id t s k h at is near in
       dite (ℕ_discrete m 2)
@@ -155,7 +156,7 @@ module _ {T : Type 0} {P : ℕ → List T → Type 0} where
         (
           (λ z. (
             x,
-            taken_allowed n t s k h x is (fits_full m l h _ fit e idle),
+            told _ _ (taken_allowed n t s k h x is (fits_full m l h _ fit e idle)),
             ap (λ u. (Thread h', (u, Some x) ∷ [])) (sym (cell_of_word t)),
           )),
           (λ ne. absurd (ne e)),
@@ -235,13 +236,15 @@ module _ {T : Type 0} {P : ℕ → List T → Type 0} where
       along key n id t w (λ _. 2) (λ v q _. EndPutTells (step n v 2 0 none) q 2) m (Kernel d, (t, Some x) ∷ []) e is at
       (ends_here n id t d x h a fine)
 
-  pub take_allowed : (key n id t w : ℕ) (m : Sat T) (h : ThreadView T) → key ≡ n → w ≡ word_of t → m ≡ (Thread h, [])
+  pub take_allowed : (Q : ℕ → List T → Type 0) → ((u : ℕ) (xs : List T) → P u xs → Q u xs) → (key n id t w : ℕ)
+      (m : Sat T) (h : ThreadView T) → key ≡ n → w ≡ word_of t → m ≡ (Thread h, [])
       → h.thread ≡ t → t < n → h.taking ≡ None
-      → Allows (KeepsRule P key) n id m w (λ r. r) (TakeTells P (step n w 0 0 none) m)
-  take_allowed key n id t w m h e at is a near b = along key n id t w (λ r. r) (λ v. TakeTells P (step n v 0 0 none)) m (
-    Thread h,
-    [],
-  ) e is at (takes_here n id t h a near b)
+      → Allows (KeepsRule P key) n id m w (λ r. r) (TakeTells Q (step n w 0 0 none) m)
+  take_allowed Q told key n id t w m h e at is a near b =
+      along key n id t w (λ r. r) (λ v. TakeTells Q (step n v 0 0 none)) m (
+        Thread h,
+        [],
+      ) e is at (takes_here Q told n id t h a near b)
 
   pub give_allowed : (key n id t w : ℕ) (m : Sat T) (h : ThreadView T) (x : T) → key ≡ n → w ≡ word_of t
       → m ≡ (Thread h, (t, None) ∷ []) → h.thread ≡ t → t < n → h.taking ≡ Some x

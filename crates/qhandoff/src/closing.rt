@@ -10,7 +10,7 @@ ghost use Rattle.qhandoff.specs.Steps.{kernel_view_in, joined_at};
 ghost use Rattle.qhandoff.specs.Words.{cells_id, count, kernel_view, taken, took, one, tagged, left_for};
 ghost use Rattle.qhandoff.specs.Words.{thread_id, thread_of, Rises, AreBelow, IsKernelOf, IsRow};
 
-use crate::cells::Cells;
+use crate::cells::{Cells, CellsKey};
 use crate::delivered::Delivered;
 use crate::seats::{KernelSeat, ThreadSeat};
 use crate::steps::{HandOff, JoinOne};
@@ -19,12 +19,12 @@ use atomic_table::{Closed, Seat, Shared};
 use std::alloc::Global;
 
 /// Joins one thread's token, so that the kernel's token knows the completions that this thread took.
-fn join_one<T: Delivered>(
-    shared: &Shared<Option<T>, View<T>, usize, HandOff>,
+fn join_one<T: Delivered<O>, O>(
+    shared: &Shared<Option<T>, View<T>, CellsKey<O>, HandOff>,
     seat: &mut Seat<Option<T>, View<T>>,
     other: ThreadSeat<T>,
 )
-    requires sized { (shared.now.key ≡ shared.now.table_id.slots)
+    requires sized { (shared.now.key.threads ≡ shared.now.table_id.slots)
         × (shared.now.table_id.words ≡ shared.now.table_id.slots * 8) }
     requires seat { (seat.old.table_id ≡ shared.now.table_id)
         × (seat.old.me ≡ (Kernel (kernel_view_in seat.old.me.0), [])) }
@@ -43,12 +43,12 @@ fn join_one<T: Delivered>(
 }
 
 /// Joins the tokens of all threads, beginning with the last.
-fn join_all<T: Delivered>(
-    shared: &Shared<Option<T>, View<T>, usize, HandOff>,
+fn join_all<T: Delivered<O>, O>(
+    shared: &Shared<Option<T>, View<T>, CellsKey<O>, HandOff>,
     seat: &mut Seat<Option<T>, View<T>>,
     mut threads: Vec<ThreadSeat<T>>,
 )
-    requires sized { (shared.now.key ≡ shared.now.table_id.slots)
+    requires sized { (shared.now.key.threads ≡ shared.now.table_id.slots)
         × (shared.now.table_id.words ≡ shared.now.table_id.slots * 8) }
     requires seat { (seat.old.table_id ≡ shared.now.table_id)
         × (seat.old.me ≡ (Kernel (kernel_view_in seat.old.me.0), []))
@@ -67,7 +67,7 @@ fn join_all<T: Delivered>(
 }
 
 /// Appends the value of one slot with its thread, if the slot has a value.
-fn keep<T: Delivered>(room: &mut Vec<(usize, T)>, thread: usize, value: Option<T>)
+fn keep<T: Drop>(room: &mut Vec<(usize, T)>, thread: usize, value: Option<T>)
     requires { length room.old.items < vec_capacity room.old }
     ensures { (room.new.items ≡ room.old.items ++ tagged thread value)
         × (vec_capacity room.new ≡ vec_capacity room.old) }
@@ -78,7 +78,7 @@ fn keep<T: Delivered>(room: &mut Vec<(usize, T)>, thread: usize, value: Option<T
 }
 
 /// Returns the completions in the slots, each with its thread, in ascending order of thread index.
-fn collect<T: Delivered>(
+fn collect<T: Drop>(
     mut closed: Closed<Option<T>, Global>,
     mut room: Vec<(usize, T)>,
 ) -> Vec<(usize, T)>
@@ -98,7 +98,7 @@ fn collect<T: Delivered>(
     room
 }
 
-impl<T: Delivered> Cells<T> {
+impl<T: Delivered<O>, O> Cells<T, O> {
     /// Returns the number of cells, one for each thread.
     pub fn threads(&self) -> usize
         ensures { result ≡ count self.now }

@@ -7,6 +7,6 @@ use crate::delivered::Delivered;
 
 /// At any time, the completions that a thread took are the first completions that were put for it. They are
 /// all of them, or all except the last.
-pub fn taken_is_a_beginning<T: Delivered>()
-    ensures { TakenIsABeginning T.may_be_put }
+pub fn taken_is_a_beginning<T: Delivered<O>, O>()
+    ensures { (origin : O) → TakenIsABeginning (T.may_be_put origin) }
 {}

@@ -3,6 +3,7 @@ use Rattle.qshared.proofs.Common.{length-map, get_elem?, rises, cells_id, count,
 use Rattle.qshared.proofs.Common.{calls_of, AreDue, AreKnown, collected, later_due, of_thread, place, AreSeen}
 use Rattle.qshared.proofs.Common.{RiseByThread, at_map}
 use Rattle.qrules.proofs.Words.Facts.{threads_of}
+use Rattle.qshared.proofs.Deliveries.{left_all, left_below, left_of, left_rises, left_told}
 use Rattle.qshared.proofs.Leftover.{all_due, at_port, few_left, left_by_thread, left_due, left_known, port_due}
 use Rattle.qshared.proofs.Lists.{map_both, names_of}
 use Rattle.qshared.proofs.Places.{place_below, place_same}
@@ -21,10 +22,11 @@ close-left-requires-clause-threads g c =
 pub without_places-requires : goal.without_places-requires
 without_places-requires g c =
     let few =
-    few_left (count c.args.self.cells) c.close-left.result.items c.close-left.ensures.rises
-    c.close-left.ensures.within in
+    few_left (count c.args.self.cells) (left_of c.close-left.result.items) (left_rises _ c.close-left.ensures.rises)
+    (left_below _ _ c.close-left.ensures.within) in
+    let many = length-map c.close-left.result.items (λ x. (x.0, x.1.completion)) in
     let roomy = c.into_inner-traced.result.room.roomy in
-    record { room = (roomy.4, omega (arith, few, roomy.5, ap (λ y. y.slots) c.args.self.cells_are)) }
+    record { room = (roomy.4, omega (arith, few, many, roomy.5, ap (λ y. y.slots) c.args.self.cells_are)) }
 
 pub agree-requires : goal.agree-requires
 agree-requires g c =
@@ -56,16 +58,17 @@ returns-clause-rises g c =
     let ts = threads_of g.K.Tie.names.roster in
     let long : count c.args.self.cells ≡ length ts = ap (λ y. y.slots) c.args.self.cells_are ∙ sym h.sized
     ∙ sym (length-map g.K.Tie.names.roster (λ m. m.thread)) in
-    let below : AreBelow (length ts) c.close-left.result.items =
-    subst (λ n. AreBelow n c.close-left.result.items) long c.close-left.ensures.within in
+    let below : AreBelow (length ts) (left_of c.close-left.result.items) =
+    subst (λ n. AreBelow n (left_of c.close-left.result.items)) long (left_below _ _ c.close-left.ensures.within) in
     let told : (t i : ℕ) → place ts t ≡ Some i
-    → took (get_elem? (map (λ p. p.seat) c.args.ports.items) i) ++ left_for i c.close-left.result.items ≡ later_due
+    → took (get_elem? (map (λ p. p.seat) c.args.ports.items) i) ++ left_for i (left_of c.close-left.result.items) ≡ later_due
     (g.L.Log.past c.traced.inside.log) t =
-    λ t i at. ap (λ ss. took (get_elem? ss i) ++ left_for i c.close-left.result.items) (sym c.gather.ensures.seats)
-    ∙ c.close-left.ensures.told i (subst (λ n. i < n) (sym long) (place_below ts t i at)) ∙ (h.told.tied t i at).0 in
-    subst RiseByThread (sym c.without_places.ensures)
-    (left_by_thread ts (g.L.Log.past c.traced.inside.log) c.close-left.result.items
-    (rises g.K.Tie.names.roster h.rises) c.close-left.ensures.rises below
+    λ t i at. ap (λ ss. took (get_elem? ss i) ++ left_for i (left_of c.close-left.result.items)) (sym c.gather.ensures.seats)
+    ∙ left_told i _ c.close-left.result.items _
+    (c.close-left.ensures.told i (subst (λ n. i < n) (sym long) (place_below ts t i at))) ∙ (h.told.tied t i at).0 in
+    subst RiseByThread (sym (c.without_places.ensures ∙ left_all c.close-left.result.items))
+    (left_by_thread ts (g.L.Log.past c.traced.inside.log) (left_of c.close-left.result.items)
+    (rises g.K.Tie.names.roster h.rises) (left_rises _ c.close-left.ensures.rises) below
     (λ i. took (get_elem? (map (λ p. p.seat) c.args.ports.items) i)) told)
 
 pub returns-clause-known : goal.returns-clause-known
@@ -74,16 +77,17 @@ returns-clause-known g c =
     let ts = threads_of g.K.Tie.names.roster in
     let long : count c.args.self.cells ≡ length ts = ap (λ y. y.slots) c.args.self.cells_are ∙ sym h.sized
     ∙ sym (length-map g.K.Tie.names.roster (λ m. m.thread)) in
-    let below : AreBelow (length ts) c.close-left.result.items =
-    subst (λ n. AreBelow n c.close-left.result.items) long c.close-left.ensures.within in
+    let below : AreBelow (length ts) (left_of c.close-left.result.items) =
+    subst (λ n. AreBelow n (left_of c.close-left.result.items)) long (left_below _ _ c.close-left.ensures.within) in
     let told : (t i : ℕ) → place ts t ≡ Some i
-    → took (get_elem? (map (λ p. p.seat) c.args.ports.items) i) ++ left_for i c.close-left.result.items ≡ later_due
+    → took (get_elem? (map (λ p. p.seat) c.args.ports.items) i) ++ left_for i (left_of c.close-left.result.items) ≡ later_due
     (g.L.Log.past c.traced.inside.log) t =
-    λ t i at. ap (λ ss. took (get_elem? ss i) ++ left_for i c.close-left.result.items) (sym c.gather.ensures.seats)
-    ∙ c.close-left.ensures.told i (subst (λ n. i < n) (sym long) (place_below ts t i at)) ∙ (h.told.tied t i at).0 in
-    subst (AreKnown g.K.Tie.names.roster) (sym c.without_places.ensures)
-    (left_known ts (g.L.Log.past c.traced.inside.log) c.close-left.result.items
-    (rises g.K.Tie.names.roster h.rises) c.close-left.ensures.rises below
+    λ t i at. ap (λ ss. took (get_elem? ss i) ++ left_for i (left_of c.close-left.result.items)) (sym c.gather.ensures.seats)
+    ∙ left_told i _ c.close-left.result.items _
+    (c.close-left.ensures.told i (subst (λ n. i < n) (sym long) (place_below ts t i at))) ∙ (h.told.tied t i at).0 in
+    subst (AreKnown g.K.Tie.names.roster) (sym (c.without_places.ensures ∙ left_all c.close-left.result.items))
+    (left_known ts (g.L.Log.past c.traced.inside.log) (left_of c.close-left.result.items)
+    (rises g.K.Tie.names.roster h.rises) (left_rises _ c.close-left.ensures.rises) below
     (λ i. took (get_elem? (map (λ p. p.seat) c.args.ports.items) i)) told g.K.Tie.names.roster refl)
 
 pub returns-clause-due : goal.returns-clause-due
@@ -94,19 +98,20 @@ returns-clause-due g c =
     let ports = c.args.ports.items in
     let long : count c.args.self.cells ≡ length ts = ap (λ y. y.slots) c.args.self.cells_are ∙ sym h.sized
     ∙ sym (length-map g.K.Tie.names.roster (λ m. m.thread)) in
-    let below : AreBelow (length ts) c.close-left.result.items =
-    subst (λ n. AreBelow n c.close-left.result.items) long c.close-left.ensures.within in
+    let below : AreBelow (length ts) (left_of c.close-left.result.items) =
+    subst (λ n. AreBelow n (left_of c.close-left.result.items)) long (left_below _ _ c.close-left.ensures.within) in
     let told : (t i : ℕ) → place ts t ≡ Some i
-    → took (get_elem? (map (λ p. p.seat) ports) i) ++ left_for i c.close-left.result.items ≡ later_due past t =
-    λ t i at. ap (λ ss. took (get_elem? ss i) ++ left_for i c.close-left.result.items) (sym c.gather.ensures.seats)
-    ∙ c.close-left.ensures.told i (subst (λ n. i < n) (sym long) (place_below ts t i at)) ∙ (h.told.tied t i at).0 in
-    let left = map (λ x. x.1) c.close-left.result.items in
+    → took (get_elem? (map (λ p. p.seat) ports) i) ++ left_for i (left_of c.close-left.result.items) ≡ later_due past t =
+    λ t i at. ap (λ ss. took (get_elem? ss i) ++ left_for i (left_of c.close-left.result.items)) (sym c.gather.ensures.seats)
+    ∙ left_told i _ c.close-left.result.items _
+    (c.close-left.ensures.told i (subst (λ n. i < n) (sym long) (place_below ts t i at))) ∙ (h.told.tied t i at).0 in
+    let left = map (λ x. x.1) (left_of c.close-left.result.items) in
     let cells =
-    left_due ts past c.close-left.result.items (rises g.K.Tie.names.roster h.rises) c.close-left.ensures.rises below
+    left_due ts past (left_of c.close-left.result.items) (rises g.K.Tie.names.roster h.rises) (left_rises _ c.close-left.ensures.rises) below
     (λ i. took (get_elem? (map (λ p. p.seat) ports) i)) told in
     let many : length ports ≡ length ts = c.requires.all.0 ∙ ap (λ y. y.slots) (sym c.args.self.cells_are) ∙ long in
     subst (λ l. AreDue g.K.Tie.names.roster (map (λ p. collected p.last.trace p.thread (taken p.seat)) ports) l past)
-    (sym c.without_places.ensures)
+    (sym (c.without_places.ensures ∙ left_all c.close-left.result.items))
     (all_due (λ p. p.seat) (λ p. collected p.last.trace p.thread (taken p.seat)) g.K.Tie.names.roster past left ports
     many (λ t k p at is mine.
     let same = place_same ts p.thread t k (p.thread_is ∙ ap Some (c.requires.all.1 k p at)) is in

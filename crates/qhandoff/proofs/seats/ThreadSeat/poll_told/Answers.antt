@@ -1,13 +1,13 @@
 use Rattle.qhandoff.proofs.Common.{rules, Some, refl, thread_view_in}
 use Rattle.qhandoff.proofs.Allowed.{take_allowed, give_allowed}
 use Rattle.qhandoff.proofs.Rests.{in_poll, after_poll, carries, thread_rests}
-use Rattle.qhandoff.proofs.seats.ThreadSeat.poll.Goals as goal
+use Rattle.qhandoff.proofs.seats.ThreadSeat.poll_told.Goals as goal
 
 pub load-requires : goal.load-requires
 load-requires g c = let k = c.args.self.now.knows in (
   search rules,
   search rules,
-  take_allowed _ _ _ _ _ _ _ c.args.cells.now.keyed c.word_of-word.ensures.word k.0 k.2
+  take_allowed g.W.Told.told c.requires.told _ _ _ _ _ _ _ c.args.cells.now.keyed c.word_of-word.ensures.word k.0 k.2
       (search rules) k.3,
 )
 
