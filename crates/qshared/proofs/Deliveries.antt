@@ -1,10 +1,10 @@
 -- Views of deliveries as views of their completions.
 use Rattle.qshared.proofs.Common.{◌≡◌, ℕ, zero, suc, ◌<◌, List, [], ◌∷◌, ◌++◌, length, map, set, get_or, refl, ap, sym}
-use Rattle.qshared.proofs.Common.{◌∙◌, subst, false, true, Some, some, length-map, replicate, get_elem?, Completion}
+use Rattle.qshared.proofs.Common.{◌∙◌, subst, false, true, Some, length-map, replicate, Completion}
 use Rattle.qshared.proofs.Common.{KernelView, CellView, idle_line, line, opened_kernel_view, cancelled_kernel_view}
 use Rattle.qshared.proofs.Common.{put_kernel_view, seated_kernel_view, kernel_view, IsBusy, left_for, AreBelow}
-use Rattle.qshared.proofs.Common.{inl, inr, ⊎_elim, Member, eqb, Bool, cond, at_map}
-use Rattle.std.specs.Prelude.{MatchBool}
+use Rattle.qshared.proofs.Common.{inl, inr, Option, Member, eqb, Bool, cond}
+use Rattle.std.specs.Prelude.{IfSome, MatchBool, MatchOption}
 use Rattle.qshared.specs.Delivered.{completions_in, line_of, view_of, ArePut, IsDelivered}
 use Rattle.qshared.specs.declared.delivery.Delivery.{Delivery}
 use Rattle.qhandoff.specs.declared.seats.KernelSeat.{KernelSeat}
@@ -65,8 +65,10 @@ none_in [] e = refl
 none_in (x ∷ xs) e = absurd (not_nil x.completion (completions_in xs) e)
 
 pub busy_is : (d : KernelView Delivery) (i : ℕ) → IsBusy (line d i) → IsBusy (line (view_of d) i)
-busy_is d i b = subst IsBusy (sym (line_is d i))
-    (⊎_elim (λ o. inl o) (λ some_put. inr (λ none. some_put (none_in (line d i).put none))) b)
+busy_is d i b = subst IsBusy (sym (line_is d i)) (elim b [
+  | inl opened ↦ inl opened
+  | inr full ↦ inr (λ none. full (none_in (line d i).put none))
+])
 
 -- the effect of opening a cell
 pub opened_told : (b : Bool) (d d' : KernelView Delivery) (i : ℕ)
@@ -106,6 +108,18 @@ may_put roster history i d x name is before y e =
       name,
       subst (λ ys. IsDelivered roster i ys x.completion x.seen.trace) (sym all) is,
     )
+
+-- a delivery that was taken
+pub polled : (r : Option Delivery) (x : Delivery) (roster : List Member) (history i : ℕ) (had has : List Delivery)
+    → r ≡ Some x → MatchOption r (has ≡ had) (λ y. has ≡ had ++ y ∷ [])
+    → IfSome r (λ y. ArePut roster history i has)
+    → (has ≡ had ++ x ∷ []) × (x.seen.name ≡ history)
+    × IsDelivered roster i (completions_in has) x.completion x.seen.trace
+polled r x roster history i had has is took put =
+    let more : has ≡ had ++ x ∷ [] =
+    subst (λ o. MatchOption o (has ≡ had) (λ y. has ≡ had ++ y ∷ [])) is took in
+    let all : ArePut roster history i has = subst (λ o. IfSome o (λ y. ArePut roster history i has)) is put in
+    let here = all had x more in (more, here.0, here.1)
 
 -- ---- what is left in the cells
 

@@ -10,7 +10,7 @@ module _ {P : Type 0} where
   map_same [] = refl
   map_same (x ∷ xs) = ap (λ ys. x ∷ ys) (map_same xs)
 
-  origin : {A : Type 0} (f : P → A) (xs : List P) (k : ℕ) (a : A) → get_elem? (map f xs) k ≡ some a
+  pub origin : {A : Type 0} (f : P → A) (xs : List P) (k : ℕ) (a : A) → get_elem? (map f xs) k ≡ some a
       → (p : P) × (get_elem? xs k ≡ some p) × (f p ≡ a)
   origin f [] k a e = absurd (some-ne-none a (sym e))
   origin f (x ∷ xs) zero a e = (x, refl, some-injective (f x) a e)

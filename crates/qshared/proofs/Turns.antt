@@ -8,13 +8,13 @@ use Rattle.qshared.proofs.Common.{calls_of, HasWaited, of_thread, at_once, ends_
 use Rattle.qmodel.specs.Trace.{Trace}
 
 -- the head and the tail of equal lists
-heads : {A : Type 0} (x y : A) (xs ys : List A) → x ∷ xs ≡ y ∷ ys → x ≡ y
+pub heads : {A : Type 0} (x y : A) (xs ys : List A) → x ∷ xs ≡ y ∷ ys → x ≡ y
 heads x y xs ys e = ap (λ l. first x l) e where
   first : {A : Type 0} → A → List A → A
   first d [] = d
   first d (z ∷ zs) = z
 
-tails : {A : Type 0} (x y : A) (xs ys : List A) → x ∷ xs ≡ y ∷ ys → xs ≡ ys
+pub tails : {A : Type 0} (x y : A) (xs ys : List A) → x ∷ xs ≡ y ∷ ys → xs ≡ ys
 tails x y xs ys e = ap rest e where
   rest : {A : Type 0} → List A → List A
   rest [] = []

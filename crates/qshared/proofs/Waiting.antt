@@ -1,9 +1,9 @@
 -- The newest call of a thread, and the completion that the thread waits for.
-use Rattle.qshared.proofs.Common.{◌≡◌, ℕ, zero, suc, ◌+◌, ◌≤◌, ◌⊎◌, List, [], ◌∷◌, ◌++◌, length, length-append, refl}
-use Rattle.qshared.proofs.Common.{ap, sym, subst, ◌∙◌, cond, Bool, true, false, eqb, inl, inr, arith, append-nil, None}
-use Rattle.qshared.proofs.Common.{Option, Some, MatchOption, is_some, is_none, AllByRecursion, cases_Bool, eqb-true}
+use Rattle.qshared.proofs.Common.{◌≡◌, ℕ, ◌+◌, ◌≤◌, ◌⊎◌, List, [], ◌∷◌, ◌++◌, length, length-append, refl}
+use Rattle.qshared.proofs.Common.{ap, sym, subst, ◌∙◌, Bool, true, false, eqb, inl, inr, arith, append-nil, None}
+use Rattle.qshared.proofs.Common.{Option, Some, MatchOption, is_none, AllByRecursion, cases_Bool, eqb-true}
 use Rattle.qshared.proofs.Common.{eqb-false, eq-eqb, true≢false, none-some, Completion, Call, Extends, IsSince, Member}
-use Rattle.qshared.proofs.Common.{calls_of, of_thread, at_once, ends_open, waits, AreLater, place, threads_of, IsRoster}
+use Rattle.qshared.proofs.Common.{calls_of, of_thread, at_once, ends_open, waits, AreLater, place, threads_of}
 use Rattle.qshared.proofs.Common.{IsLawful, facts_of, open_call, refusal_of, Answers, completes, Event}
 use Rattle.std.specs.Prelude.{IfSome}
 use Rattle.std.proofs.lemmas.Bool.{or_parts}
@@ -12,7 +12,7 @@ use Rattle.qrules.proofs.Common.{OpenCall, all_filter_map, completion_to}
 use Rattle.qrules.proofs.Basics.{Facts, block, completion_names, is_ended, laws_of, number_of, open_parts}
 use Rattle.qrules.proofs.Traces.Past.Open.{open_from}
 use Rattle.qrules.proofs.Traces.Properties.Sends.{begins_now}
-use Rattle.qshared.specs.Delivered.{Arrives, EndsWith, IsAwaited, IsDelivered, newest_call}
+use Rattle.qshared.specs.Delivered.{Arrives, EndsWith, IsAwaited, newest_call}
 use Rattle.qshared.specs.declared.history.Prefix.{Prefix}
 use Rattle.qshared.proofs.Places.{place_same}
 use Rattle.qshared.proofs.Seeing.{on}
