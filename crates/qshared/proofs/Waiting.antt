@@ -242,5 +242,5 @@ awaited_again roster t i asked last before between after None s had kept has old
     (subst (λ (z : Bool × List Completion). AreLater z.0 (at_once last t) z.1) (λ k. (sym p k, sym takes k)) later)
     takes' p' l' a
 
-pub awaited_some : {Q : Completion → Type 0} (r : Option Completion) (x : Completion) → r ≡ Some x → IfSome r Q → Q x
-awaited_some {Q} r x is came = subst (λ o. IfSome o Q) is came
+pub awaited_some : (Q : Completion → Type 0) (r : Option Completion) (x : Completion) → r ≡ Some x → IfSome r Q → Q x
+awaited_some Q r x is came = subst (λ o. IfSome o Q) is came

@@ -37,17 +37,17 @@ pub invariant_of-self-clause-since : goal.invariant_of-self-clause-since
 invariant_of-self-clause-since g c =
     let self = c.args.self.now in
     let first = c.take-completion.ensures in
-    elim c.if-is_none.branch [
-      | then-is_none w ↦
-          let again = w.take-completion-then-is_none in
-          let none : is_none c.take-completion.result ≡ true = search rules in
-          rw (w.self-is)
-          (since_learned again.result self.seen _ self.last.trace
-          (learns_again c.take-completion.result again.result self.seen _ _ none first.seen again.ensures.seen)
-          self.since)
-      | else-is_none w ↦ rw (w.self-is)
-          (since_learned c.take-completion.result self.seen _ self.last.trace first.seen self.since)
-    ]
+    let again = c.take-completion-then-is_none in
+    let none : is_none c.take-completion.result ≡ true = search rules in
+    since_learned again.result self.seen again.new.seen self.last.trace
+    (learns_again c.take-completion.result again.result self.seen c.take-completion.new.seen again.new.seen none
+    first.seen again.ensures.seen) self.since
+
+pub invariant_of-self-else-is_none-clause-since : goal.invariant_of-self-else-is_none-clause-since
+invariant_of-self-else-is_none-clause-since g c =
+    let self = c.args.self.now in
+    since_learned c.take-completion.result self.seen c.take-completion.new.seen self.last.trace
+    c.take-completion.ensures.seen self.since
 
 pub returns-clause-came : goal.returns-clause-came
 returns-clause-came g c =

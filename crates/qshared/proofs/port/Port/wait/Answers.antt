@@ -1,6 +1,6 @@
 use Rattle.qshared.proofs.Common.{refl, sym, subst, ◌∙◌, none-some, at_once, thread_of}
 use Rattle.qshared.proofs.Turns.{takes, takes_some}
-use Rattle.qshared.proofs.Waiting.{arrives_at, awaited, awaited_some, extends_learned}
+use Rattle.qshared.proofs.Waiting.{arrives_at, awaited, awaited_some, extends_learned, since_learned}
 use Rattle.qshared.proofs.port.Port.wait.Goals as goal
 use Rattle.qshared.proofs.port.Port.wait.Goals.{then-shared, else-shared}
 
@@ -32,6 +32,12 @@ returns-in-Some-clause-came g c =
           let came = awaited g.K.Tie.names.roster self.thread (thread_of self.seat) self.asked.calls self.last.trace
           self.seen _ w.look-found.result _ _ _ _ self.thread_is self.calls_are self.since self.later e.taken e.pending
           e.seen (arrives_at w.look-found.result _ _ _ _ _ _ c.args.shared.now.origin_is.0 refl e.arrives) in
-          rw w.self-is (awaited_some w.look-found.result c.in-Some.completion (sym w.found-is ∙ c.in-Some.is) came)
+          rw w.self-is (awaited_some _ w.look-found.result c.in-Some.completion (sym w.found-is ∙ c.in-Some.is) came)
       | else-shared w ↦ absurd (none-some c.in-Some.completion (sym w.found-is ∙ c.in-Some.is))
     ]
+
+pub invariant_of-self-clause-since : goal.invariant_of-self-clause-since
+invariant_of-self-clause-since g c =
+    let self = c.args.self.now in
+    since_learned c.look-found.result self.seen c.look-found.new.seen self.last.trace c.look-found.ensures.seen
+    self.since

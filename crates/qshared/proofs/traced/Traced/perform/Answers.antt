@@ -1,5 +1,5 @@
 use Rattle.qshared.proofs.Common.{◌≡◌, length, sym, ◌∙◌, ap, refl, subst, inl, inr, arith, Some, with_event}
-use Rattle.qshared.proofs.Common.{kernel_view, threads_of, seat_kept, Extends, WaitedBefore, calls_of, place}
+use Rattle.qshared.proofs.Common.{cancelled_kernel_view, kernel_view, threads_of, seat_kept, Extends, WaitedBefore, calls_of, place}
 use Rattle.qshared.proofs.Common.{AnswersAtTraces, matches_down, matches_made, matches_roster}
 use Rattle.qshared.proofs.Turns.{still_waited}
 use Rattle.qshared.proofs.Places.{seat_at_place}
@@ -61,16 +61,14 @@ invariant_of-self-in-Err g c =
     let opened = c.if-not-open.ensures.kernel_view in
     let wide : length (kernel_view c.self.inside.seat).lines ≡ g.K.Tie.names.cells.slots = wide_lines c.self.inside.seat
     ∙ ap (λ z. z.slots) c.self.invariant.0 in
+    let whole : kernel_view c.cancel.new.seat ≡ kernel_view c.self.inside.seat =
+    c.cancel.ensures.kernel_view ∙ ap (λ d. cancelled_kernel_view d c.index-place.result) opened.0
+    ∙ same_kernel_view _ _ _ _ _ _ c.self.invariant.2 c.args.scratch.now.seat.thread c.index-place.result at up
+    opened.1 wide in
     let same = c.note.ensures.same in (
       c.cancel.ensures.cells ∙ c.open.ensures.cells ∙ c.self.invariant.0,
       same.1 ∙ c.self.invariant.1,
-      rw (
-        c.cancel.ensures.kernel_view,
-        opened.0,
-        same_kernel_view _ _ _ _ _ _ c.self.invariant.2 c.args.scratch.now.seat.thread c.index-place.result at up
-            opened.1 wide,
-        same.0,
-      ) c.self.invariant.2,
+      rw (whole, same.0) c.self.invariant.2,
       (
         ap (λ h. h.name) c.look.ensures.same ∙ c.self.invariant.3.0,
         ap (λ h. h.trace) c.look.ensures.same
@@ -86,15 +84,12 @@ returns-in-Err-clause-performs g c =
     let opened = c.if-not-open.ensures.kernel_view in
     let wide : length (kernel_view c.self.inside.seat).lines ≡ g.K.Tie.names.cells.slots = wide_lines c.self.inside.seat
     ∙ ap (λ z. z.slots) c.self.invariant.0 in
+    let whole : kernel_view c.cancel.new.seat ≡ kernel_view c.self.inside.seat =
+    c.cancel.ensures.kernel_view ∙ ap (λ d. cancelled_kernel_view d c.index-place.result) opened.0
+    ∙ same_kernel_view _ _ _ _ _ _ c.self.invariant.2 c.args.scratch.now.seat.thread c.index-place.result at up
+    opened.1 wide in
     let same = c.note.ensures.same in
-    rw (
-      ← c.self.view_is,
-      c.cancel.ensures.kernel_view,
-      opened.0,
-      same_kernel_view _ _ _ _ _ _ c.self.invariant.2 c.args.scratch.now.seat.thread c.index-place.result at up
-          opened.1 wide,
-      same.0,
-    ) (
+    rw (← c.self.view_is, whole, same.0) (
       refl,
       refl,
       inr (
