@@ -1,5 +1,5 @@
 -- How a call's outcome relates to the history. The endpoint that made the call defines this.
-use Rattle.std.specs.Prelude.{◌≡◌, ◌⊎◌, List, [], ◌∷◌, ◌++◌, Result, Err, if◌then◌else◌}
+use Rattle.std.specs.Prelude.{◌≡◌, ◌⊎◌, List, [], ◌∷◌, ◌++◌, Result, Err, cond}
 use Rattle.qmodel.specs.declared.call.Call.{Call}
 use Rattle.qmodel.specs.declared.call.Call.TheVariants.{Shutdown}
 use Rattle.qmodel.specs.declared.call.Completion.{Completion}
@@ -59,7 +59,7 @@ GivesBoth Said (First first given) before after was seen = Gives Said first befo
 abbrev pub ComesOf : {E : Type 0} → (E → History) → Says E → SaysAwaited E → E → Call → Trace → History → Type 0
 ComesOf history came awaited before call seen after =
     (a : Called) × (was : Trace) × came before call a was × (after.told ≡ told_by a)
-    × Gives (awaited before (if is_call a then call ∷ [] else []) was) a (history before).taken after.taken was
+    × Gives (awaited before (cond (is_call a) (call ∷ []) []) was) a (history before).taken after.taken was
     seen
 
 -- a call with bytes had some outcome, as in `ComesOf`; or there was no memory for the bytes, and the endpoint

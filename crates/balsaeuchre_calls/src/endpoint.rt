@@ -212,8 +212,8 @@ impl<'a, K: Tie, L: Log> Endpoint for KernelPort<'a, K, L> {
     ghost waited = { λ p x after. (
         IsAwaited K.names.roster p.port.thread p.port.asked.calls p.port.last.trace x after) };
 
-    ghost awaited = { λ p calls then x after. (
-        IsAwaited K.names.roster p.port.thread (p.port.asked.calls ++ calls) then x after) };
+    ghost awaited = { λ p calls was x after. (
+        IsAwaited K.names.roster p.port.thread (p.port.asked.calls ++ calls) was x after) };
 
     fn thread(&self) -> ThreadNo {
         self.port.thread()

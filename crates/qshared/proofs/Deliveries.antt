@@ -148,6 +148,10 @@ left_below n xs b k x e =
     let o = origin (λ (z : ℕ × Delivery). (z.0, z.1.completion)) xs k x e in
     subst (λ (z : ℕ × Completion). z.0 < n) o.2 (b k o.0 o.1)
 
+pub left_length : (xs : List (ℕ × Delivery)) → length (left_of xs) ≡ length xs
+left_length [] = refl
+left_length (x ∷ xs) = ap (λ (n : ℕ). suc n) (left_length xs)
+
 pub left_all : (xs : List (ℕ × Delivery)) → map (λ x. x.1.completion) xs ≡ map (λ x. x.1) (left_of xs)
 left_all [] = refl
 left_all (x ∷ xs) = ap (λ ys. x.1.completion ∷ ys) (left_all xs)

@@ -3,7 +3,8 @@ use Rattle.qshared.proofs.Common.{length-map, get_elem?, rises, cells_id, count,
 use Rattle.qshared.proofs.Common.{calls_of, AreDue, AreKnown, collected, later_due, of_thread, place, AreSeen}
 use Rattle.qshared.proofs.Common.{RiseByThread, at_map}
 use Rattle.qrules.proofs.Words.Facts.{threads_of}
-use Rattle.qshared.proofs.Deliveries.{left_all, left_below, left_of, left_rises, left_told}
+use Rattle.qhandoff.specs.Words as cells
+use Rattle.qshared.proofs.Deliveries.{left_all, left_below, left_length, left_of, left_rises, left_told}
 use Rattle.qshared.proofs.Leftover.{all_due, at_port, few_left, left_by_thread, left_due, left_known, port_due}
 use Rattle.qshared.proofs.Lists.{map_both, names_of}
 use Rattle.qshared.proofs.Places.{place_below, place_same}
@@ -24,7 +25,7 @@ without_places-requires g c =
     let few =
     few_left (count c.args.self.cells) (left_of c.close-left.result.items) (left_rises _ c.close-left.ensures.rises)
     (left_below _ _ c.close-left.ensures.within) in
-    let many = length-map c.close-left.result.items (λ x. (x.0, x.1.completion)) in
+    let many = left_length c.close-left.result.items in
     let roomy = c.into_inner-traced.result.room.roomy in
     record { room = (roomy.4, omega (arith, few, many, roomy.5, ap (λ y. y.slots) c.args.self.cells_are)) }
 
@@ -64,7 +65,7 @@ returns-clause-rises g c =
     → took (get_elem? (map (λ p. p.seat) c.args.ports.items) i) ++ left_for i (left_of c.close-left.result.items) ≡ later_due
     (g.L.Log.past c.traced.inside.log) t =
     λ t i at. ap (λ ss. took (get_elem? ss i) ++ left_for i (left_of c.close-left.result.items)) (sym c.gather.ensures.seats)
-    ∙ left_told i _ c.close-left.result.items _
+    ∙ left_told i _ c.close-left.result.items (cells.kernel_view c.traced.inside.seat)
     (c.close-left.ensures.told i (subst (λ n. i < n) (sym long) (place_below ts t i at))) ∙ (h.told.tied t i at).0 in
     subst RiseByThread (sym (c.without_places.ensures ∙ left_all c.close-left.result.items))
     (left_by_thread ts (g.L.Log.past c.traced.inside.log) (left_of c.close-left.result.items)
@@ -83,7 +84,7 @@ returns-clause-known g c =
     → took (get_elem? (map (λ p. p.seat) c.args.ports.items) i) ++ left_for i (left_of c.close-left.result.items) ≡ later_due
     (g.L.Log.past c.traced.inside.log) t =
     λ t i at. ap (λ ss. took (get_elem? ss i) ++ left_for i (left_of c.close-left.result.items)) (sym c.gather.ensures.seats)
-    ∙ left_told i _ c.close-left.result.items _
+    ∙ left_told i _ c.close-left.result.items (cells.kernel_view c.traced.inside.seat)
     (c.close-left.ensures.told i (subst (λ n. i < n) (sym long) (place_below ts t i at))) ∙ (h.told.tied t i at).0 in
     subst (AreKnown g.K.Tie.names.roster) (sym (c.without_places.ensures ∙ left_all c.close-left.result.items))
     (left_known ts (g.L.Log.past c.traced.inside.log) (left_of c.close-left.result.items)
@@ -103,10 +104,10 @@ returns-clause-due g c =
     let told : (t i : ℕ) → place ts t ≡ Some i
     → took (get_elem? (map (λ p. p.seat) ports) i) ++ left_for i (left_of c.close-left.result.items) ≡ later_due past t =
     λ t i at. ap (λ ss. took (get_elem? ss i) ++ left_for i (left_of c.close-left.result.items)) (sym c.gather.ensures.seats)
-    ∙ left_told i _ c.close-left.result.items _
+    ∙ left_told i _ c.close-left.result.items (cells.kernel_view c.traced.inside.seat)
     (c.close-left.ensures.told i (subst (λ n. i < n) (sym long) (place_below ts t i at))) ∙ (h.told.tied t i at).0 in
     let left = map (λ x. x.1) (left_of c.close-left.result.items) in
-    let cells =
+    let whole =
     left_due ts past (left_of c.close-left.result.items) (rises g.K.Tie.names.roster h.rises) (left_rises _ c.close-left.ensures.rises) below
     (λ i. took (get_elem? (map (λ p. p.seat) ports) i)) told in
     let many : length ports ≡ length ts = c.requires.all.0 ∙ ap (λ y. y.slots) (sym c.args.self.cells_are) ∙ long in
@@ -122,7 +123,7 @@ returns-clause-due g c =
     ∙ at_port (λ q. q.seat) (λ q. []) g.K.Tie.names.roster past left (λ q. q.asked.calls) ports k p [] at in
     let o = h.told.owed t k is in
     port_due past p.seen.trace p.last.trace p.asked.calls p.thread t (taken p.seat)
-    (of_thread t left) p.scratch.pending _ same extends p.since now p.calls_are p.later o.later o.whole mine) cells)
+    (of_thread t left) p.scratch.pending _ same extends p.since now p.calls_are p.later o.later o.whole mine) whole)
 
 pub returns-clause-seen : goal.returns-clause-seen
 returns-clause-seen g c =
