@@ -55,60 +55,63 @@ returns-clause-sum g c =
 
 pub returns-clause-rises : goal.returns-clause-rises
 returns-clause-rises g c =
+    let all = left_of c.close-left.result.items in
     let h = c.traced.invariant.2 in
     let ts = threads_of g.K.Tie.names.roster in
     let long : count c.args.self.cells ≡ length ts = ap (λ y. y.slots) c.args.self.cells_are ∙ sym h.sized
     ∙ sym (length-map g.K.Tie.names.roster (λ m. m.thread)) in
-    let below : AreBelow (length ts) (left_of c.close-left.result.items) =
-    subst (λ n. AreBelow n (left_of c.close-left.result.items)) long (left_below _ _ c.close-left.ensures.within) in
+    let below : AreBelow (length ts) all =
+    subst (λ n. AreBelow n all) long (left_below _ _ c.close-left.ensures.within) in
     let told : (t i : ℕ) → place ts t ≡ Some i
-    → took (get_elem? (map (λ p. p.seat) c.args.ports.items) i) ++ left_for i (left_of c.close-left.result.items) ≡ later_due
+    → took (get_elem? (map (λ p. p.seat) c.args.ports.items) i) ++ left_for i all ≡ later_due
     (g.L.Log.past c.traced.inside.log) t =
-    λ t i at. ap (λ ss. took (get_elem? ss i) ++ left_for i (left_of c.close-left.result.items)) (sym c.gather.ensures.seats)
+    λ t i at. ap (λ ss. took (get_elem? ss i) ++ left_for i all) (sym c.gather.ensures.seats)
     ∙ left_told i _ c.close-left.result.items (cells.kernel_view c.traced.inside.seat)
     (c.close-left.ensures.told i (subst (λ n. i < n) (sym long) (place_below ts t i at))) ∙ (h.told.tied t i at).0 in
     subst RiseByThread (sym (c.without_places.ensures ∙ left_all c.close-left.result.items))
-    (left_by_thread ts (g.L.Log.past c.traced.inside.log) (left_of c.close-left.result.items)
+    (left_by_thread ts (g.L.Log.past c.traced.inside.log) all
     (rises g.K.Tie.names.roster h.rises) (left_rises _ c.close-left.ensures.rises) below
     (λ i. took (get_elem? (map (λ p. p.seat) c.args.ports.items) i)) told)
 
 pub returns-clause-known : goal.returns-clause-known
 returns-clause-known g c =
+    let all = left_of c.close-left.result.items in
     let h = c.traced.invariant.2 in
     let ts = threads_of g.K.Tie.names.roster in
     let long : count c.args.self.cells ≡ length ts = ap (λ y. y.slots) c.args.self.cells_are ∙ sym h.sized
     ∙ sym (length-map g.K.Tie.names.roster (λ m. m.thread)) in
-    let below : AreBelow (length ts) (left_of c.close-left.result.items) =
-    subst (λ n. AreBelow n (left_of c.close-left.result.items)) long (left_below _ _ c.close-left.ensures.within) in
+    let below : AreBelow (length ts) all =
+    subst (λ n. AreBelow n all) long (left_below _ _ c.close-left.ensures.within) in
     let told : (t i : ℕ) → place ts t ≡ Some i
-    → took (get_elem? (map (λ p. p.seat) c.args.ports.items) i) ++ left_for i (left_of c.close-left.result.items) ≡ later_due
+    → took (get_elem? (map (λ p. p.seat) c.args.ports.items) i) ++ left_for i all ≡ later_due
     (g.L.Log.past c.traced.inside.log) t =
-    λ t i at. ap (λ ss. took (get_elem? ss i) ++ left_for i (left_of c.close-left.result.items)) (sym c.gather.ensures.seats)
+    λ t i at. ap (λ ss. took (get_elem? ss i) ++ left_for i all) (sym c.gather.ensures.seats)
     ∙ left_told i _ c.close-left.result.items (cells.kernel_view c.traced.inside.seat)
     (c.close-left.ensures.told i (subst (λ n. i < n) (sym long) (place_below ts t i at))) ∙ (h.told.tied t i at).0 in
     subst (AreKnown g.K.Tie.names.roster) (sym (c.without_places.ensures ∙ left_all c.close-left.result.items))
-    (left_known ts (g.L.Log.past c.traced.inside.log) (left_of c.close-left.result.items)
+    (left_known ts (g.L.Log.past c.traced.inside.log) all
     (rises g.K.Tie.names.roster h.rises) (left_rises _ c.close-left.ensures.rises) below
     (λ i. took (get_elem? (map (λ p. p.seat) c.args.ports.items) i)) told g.K.Tie.names.roster refl)
 
 pub returns-clause-due : goal.returns-clause-due
 returns-clause-due g c =
+    let all = left_of c.close-left.result.items in
     let h = c.traced.invariant.2 in
     let past = g.L.Log.past c.traced.inside.log in
     let ts = threads_of g.K.Tie.names.roster in
     let ports = c.args.ports.items in
     let long : count c.args.self.cells ≡ length ts = ap (λ y. y.slots) c.args.self.cells_are ∙ sym h.sized
     ∙ sym (length-map g.K.Tie.names.roster (λ m. m.thread)) in
-    let below : AreBelow (length ts) (left_of c.close-left.result.items) =
-    subst (λ n. AreBelow n (left_of c.close-left.result.items)) long (left_below _ _ c.close-left.ensures.within) in
+    let below : AreBelow (length ts) all =
+    subst (λ n. AreBelow n all) long (left_below _ _ c.close-left.ensures.within) in
     let told : (t i : ℕ) → place ts t ≡ Some i
-    → took (get_elem? (map (λ p. p.seat) ports) i) ++ left_for i (left_of c.close-left.result.items) ≡ later_due past t =
-    λ t i at. ap (λ ss. took (get_elem? ss i) ++ left_for i (left_of c.close-left.result.items)) (sym c.gather.ensures.seats)
+    → took (get_elem? (map (λ p. p.seat) ports) i) ++ left_for i all ≡ later_due past t =
+    λ t i at. ap (λ ss. took (get_elem? ss i) ++ left_for i all) (sym c.gather.ensures.seats)
     ∙ left_told i _ c.close-left.result.items (cells.kernel_view c.traced.inside.seat)
     (c.close-left.ensures.told i (subst (λ n. i < n) (sym long) (place_below ts t i at))) ∙ (h.told.tied t i at).0 in
-    let left = map (λ x. x.1) (left_of c.close-left.result.items) in
+    let left = map (λ x. x.1) all in
     let whole =
-    left_due ts past (left_of c.close-left.result.items) (rises g.K.Tie.names.roster h.rises) (left_rises _ c.close-left.ensures.rises) below
+    left_due ts past all (rises g.K.Tie.names.roster h.rises) (left_rises _ c.close-left.ensures.rises) below
     (λ i. took (get_elem? (map (λ p. p.seat) ports) i)) told in
     let many : length ports ≡ length ts = c.requires.all.0 ∙ ap (λ y. y.slots) (sym c.args.self.cells_are) ∙ long in
     subst (λ l. AreDue g.K.Tie.names.roster (map (λ p. collected p.last.trace p.thread (taken p.seat)) ports) l past)

@@ -1,0 +1,19 @@
+use Rattle.qshared.proofs.Common.{ap, matches_roster, rules, seated_kernel_view, sym, view_of, ◌∙◌}
+use Rattle.qshared.proofs.Deliveries.{seated_is}
+use Rattle.qshared.proofs.parts.Parts.new.Goals as goal
+
+pub invariant_of-result-clause-fits : goal.invariant_of-result-clause-fits
+invariant_of-result-clause-fits c =
+    let e = c.in_ok-cells.ensures.cells in (
+      e.2,
+      ap view_of e.3 ∙ seated_is c.len.result c.len.result ∙ ap (λ n. seated_kernel_view n n) (sym e.0),
+      search rules,
+    )
+
+pub invariant_of-result-clause-origin : goal.invariant_of-result-clause-origin
+invariant_of-result-clause-origin c =
+    let e = c.in_ok-cells.ensures.cells in (
+      ap (λ o. o.roster.value) e.1 ∙ c.new-origin.ensures.roster
+          ∙ sym (matches_roster _ _ _ c.in_ok-kernel.ensures.matches),
+      ap (λ o. o.seen.name) e.1 ∙ c.new-origin.ensures.history ∙ sym c.begin-history.ensures.name,
+    )
