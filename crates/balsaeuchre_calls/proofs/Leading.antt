@@ -1,6 +1,7 @@
 -- The effect of a call, or of two calls in turn, follows from its outcome.
 use Rattle.balsaeuchre_calls.proofs.Common.{Call, CallError, Completion, Done, Completed, Err, Follows, Gives, History}
-use Rattle.balsaeuchre_calls.proofs.Common.{Leads, List, WaitsFor, inl, inr, Makes, MakesBoth, Ok, Reading, Result, [], ap, done_in}
+use Rattle.balsaeuchre_calls.proofs.Common.{Leads, List, Makes, MakesBoth, Ok, Reading, Result, WaitsFor, [], ap}
+use Rattle.balsaeuchre_calls.proofs.Common.{done_in, inl, inr}
 use Rattle.balsaeuchre_calls.proofs.Common.{completed_in, false, if◌then◌else◌, read_off, refl, sym, told_by, true, ⊤}
 use Rattle.balsaeuchre_calls.proofs.Common.{◌++◌, ◌∙◌, ◌∷◌, ◌≡◌}
 use Rattle.std.proofs.lemmas.List.{append-nil, append_assoc}

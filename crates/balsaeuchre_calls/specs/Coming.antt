@@ -33,7 +33,8 @@ SaysAwaited E = E → List Call → Trace → Completion → Trace → Type 0
 
 -- a blocked call's completion isn't collected, and nothing new is seen. Or it is collected, and the statement
 -- `Said` holds of it and of the prefix that the endpoint has then seen, which extends the earlier one
-abbrev pub Collects : (Completion → Trace → Type 0) → List Completion → List Completion → Trace → Trace → Type 0
+abbrev pub Collects : (Completion → Trace → Type 0) → List Completion → List Completion → Trace → Trace
+    → Type 0
 Collects Said before after was seen = ((after ≡ before) × (seen ≡ was))
     ⊎ ((x : Completion) × (after ≡ before ++ x ∷ []) × Extends seen was × Said x seen)
 
@@ -56,7 +57,8 @@ GivesBoth Said (First first given) before after was seen = Gives Said first befo
 -- a call had some outcome: the endpoint's statement about it holds with the prefix that the endpoint had seen
 -- after the call, the endpoint reports its kind, and the collected completions agree with it. If the endpoint
 -- waited for the call's completion, its statement about the wait holds
-abbrev pub ComesOf : {E : Type 0} → (E → History) → Says E → SaysAwaited E → E → Call → Trace → History → Type 0
+abbrev pub ComesOf : {E : Type 0} → (E → History) → Says E → SaysAwaited E → E → Call → Trace → History
+    → Type 0
 ComesOf history came awaited before call seen after =
     (a : Called) × (was : Trace) × came before call a was × (after.told ≡ told_by a)
     × Gives (awaited before (cond (is_call a) (call ∷ []) []) was) a (history before).taken after.taken was
@@ -74,7 +76,8 @@ ComesOfBytes history came awaited before call was seen after result =
 abbrev pub ComesWithin : {E A : Type 0} → (E → History) → Says E → SaysAwaited E → E → Call → Trace → Trace
     → History → Result A CallError → Type 0
 ComesWithin history came awaited before call was seen after result =
-    ComesOfBytes history came awaited before call was seen after result ⊎ ((seen ≡ was) × (result ≡ Err NoClock))
+    ComesOfBytes history came awaited before call was seen after result
+    ⊎ ((seen ≡ was) × (result ≡ Err NoClock))
 
 -- two calls were made in one turn with some outcome: the endpoint's statement about it holds with the prefix
 -- that the endpoint had seen after the turn, and the collected completions agree with it. Then nothing more
@@ -101,8 +104,8 @@ ComesOfBothBytes history seen came came_both awaited before first second sees af
 
 -- an endpoint that waits collects the completion of a call with this outcome, if the call blocked. Otherwise
 -- it sees nothing new
-abbrev pub WaitsFor : (Completion → Trace → Type 0) → Called → List Completion → List Completion → Trace → Trace
-    → Type 0
+abbrev pub WaitsFor : (Completion → Trace → Type 0) → Called → List Completion → List Completion → Trace
+    → Trace → Type 0
 WaitsFor Said (called.Done x) before after was seen = seen ≡ was
 WaitsFor Said called.Blocked before after was seen =
     (x : Completion) × (after ≡ before ++ x ∷ []) × Extends seen was × Said x seen

@@ -83,8 +83,8 @@ impl<'a, E: Endpoint, R: Wait> Caller<'a, E, R> {
         ensures made { MatchResult work
             (λ _. (E.history self.new.endpoint ≡ E.history self.old.endpoint)
             × (E.seen self.new.endpoint ≡ E.seen self.old.endpoint))
-            (λ _. ShutsDown (λ e. E.history e) E.came E.awaited self.old.endpoint (E.history self.new.endpoint)
-            (E.seen self.new.endpoint)) }
+            (λ _. ShutsDown (λ e. E.history e) E.came E.awaited self.old.endpoint
+            (E.history self.new.endpoint) (E.seen self.new.endpoint)) }
     {
         if work.is_err() {
             let _ = self.make(Call::Shutdown);
@@ -117,8 +117,8 @@ impl<'a, E: Endpoint, R: Wait> Caller<'a, E, R> {
     pub(crate) fn make(&mut self, call: Call) -> Result<Completed, CallError>
         ensures makes { Makes completed_in call (E.history self.old.endpoint)
             (E.history self.new.endpoint) result }
-        ensures came { ComesOf (λ e. E.history e) E.came E.awaited self.old.endpoint call (E.seen self.new.endpoint)
-            (E.history self.new.endpoint) }
+        ensures came { ComesOf (λ e. E.history e) E.came E.awaited self.old.endpoint call
+            (E.seen self.new.endpoint) (E.history self.new.endpoint) }
     {
         let called = self.endpoint.call(self.rt, call);
         self.completed_of(called)
@@ -130,8 +130,8 @@ impl<'a, E: Endpoint, R: Wait> Caller<'a, E, R> {
         ensures makes { MakesBoth completed_in first second (E.history self.old.endpoint)
             (E.history self.new.endpoint) result }
         ensures came { ComesOfBoth (λ e. E.history e)
-            (λ e. E.seen e) E.came E.came_both E.awaited self.old.endpoint first second (E.seen self.new.endpoint)
-            (E.history self.new.endpoint) }
+            (λ e. E.seen e) E.came E.came_both E.awaited self.old.endpoint first second
+            (E.seen self.new.endpoint) (E.history self.new.endpoint) }
     {
         match self.endpoint.call_both(self.rt, first, second) {
             CalledPair::Both(_, called) => self.completed_of(called),

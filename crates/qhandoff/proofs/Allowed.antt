@@ -194,7 +194,8 @@ module _ {T : Type 0} {P : ℕ → List T → Type 0} where
 
 module _ {T : Type 0} where
   -- the same, for a token and a word that a clause names
-  abbrev pub Lawful : (ℕ → List T → Type 0) → ℕ → ℕ → ℕ → ℕ → Sat T → (ℕ → ℕ) → (ℕ → Sat T → ℕ → Sat T → Type 0) → Type 0
+  abbrev pub Lawful : (ℕ → List T → Type 0) → ℕ → ℕ → ℕ → ℕ → Sat T → (ℕ → ℕ)
+      → (ℕ → Sat T → ℕ → Sat T → Type 0) → Type 0
   Lawful P key n id w m f then = Allows (KeepsRule P key) n id m w f (then w m)
 
 module _ {T : Type 0} {P : ℕ → List T → Type 0} where

@@ -73,7 +73,8 @@ impl<T> KernelSeat<T> {
         requires cells { IsKernelOf cells.now self.old }
         requires thread { thread < count cells.now }
         requires opened { (line (kernel_view self.old) thread).opened ≡ true }
-        requires allowed { T.may_be_put (origin_of cells.now) thread ((line (kernel_view self.old) thread).put ++ completion ∷ []) }
+        requires allowed { T.may_be_put (origin_of cells.now) thread
+            ((line (kernel_view self.old) thread).put ++ completion ∷ []) }
         ensures cells { kernel_id self.new ≡ kernel_id self.old }
         ensures kernel_view { kernel_view self.new ≡ put_kernel_view
             (kernel_view self.old) thread completion }

@@ -5,7 +5,8 @@ ghost use lib.ListN.{get_elem?};
 ghost use Rattle.qbase.specs.declared.errno.Errno.TheVariants.{Inval, NoMemory};
 ghost use Rattle.qhandoff.specs.declared.view.View.TheVariants.{Kernel};
 ghost use Rattle.qhandoff.specs.Steps.{seated_kernel_view};
-ghost use Rattle.qhandoff.specs.Words.{cells_id, count, kernel_view, origin_of, taken, took, thread_id, thread_of};
+ghost use Rattle.qhandoff.specs.Words.{cells_id, count, kernel_view, origin_of, taken, took, thread_id};
+ghost use Rattle.qhandoff.specs.Words.{thread_of};
 ghost use Rattle.qhandoff.specs.Words.{IsKernelOf, IsRow};
 
 use crate::cells::{Cells, CellsKey, STRIDE};

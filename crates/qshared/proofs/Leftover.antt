@@ -3,7 +3,8 @@ use Rattle.qshared.proofs.Common.{◌≡◌, ℕ, zero, suc, ◌+◌, ◌<◌, �
 use Rattle.qshared.proofs.Common.{sym, subst, ◌∙◌, cond, Bool, true, false, eqb, inl, inr, arith, Some, AllByRecursion}
 use Rattle.qshared.proofs.Common.{cases_Bool, eqb-true, eqb-false, eq-eqb, ne_eqb, true≢false, same_Some, some}
 use Rattle.qshared.proofs.Common.{some-injective, some-ne-none, get_elem?, all_more, Completion, Rises, all_at}
-use Rattle.qshared.proofs.Common.{among_member, AreBelow, left_for, took, Member, ThreadSeat, Delivery, Call, Extends, IsSince}
+use Rattle.qshared.proofs.Common.{among_member, AreBelow, left_for, took, Member, ThreadSeat, Delivery, Call, Extends}
+use Rattle.qshared.proofs.Common.{IsSince}
 use Rattle.qshared.proofs.Common.{calls_of, AreDue, AreKnown, AreLater, at_once, collected, completions_due, in_turn}
 use Rattle.qshared.proofs.Common.{later_due, later_of, of_thread, place, at_map, RiseByThread}
 use Rattle.qmodel.specs.Trace.{Trace}

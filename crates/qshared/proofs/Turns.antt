@@ -2,7 +2,8 @@
 use Rattle.qshared.proofs.Common.{◌≡◌, ℕ, zero, suc, ◌+◌, ◌-◌, ◌<◌, ◌≤◌, ◌⊎◌, List, [], ◌∷◌, ◌++◌, length}
 use Rattle.qshared.proofs.Common.{length-append, take, drop, refl, ap, sym, subst, ◌∙◌, cond, Bool, true, false, eqb}
 use Rattle.qshared.proofs.Common.{inl, inr, arith, append-nil, append_assoc, None, Option, Some, is_none, MatchOption}
-use Rattle.qshared.proofs.Common.{AllByRecursion, all_more, list_any, take-append-drop, drop-append_seam, cases_Bool, eqb-true}
+use Rattle.qshared.proofs.Common.{AllByRecursion, all_more, list_any, take-append-drop, drop-append_seam}
+use Rattle.qshared.proofs.Common.{cases_Bool, eqb-true}
 use Rattle.qshared.proofs.Common.{eq-eqb, true≢false, Completion, gets, AreApart, Extends, Call, IsSince, WaitedBefore}
 use Rattle.qshared.proofs.Common.{calls_of, HasWaited, of_thread, at_once, ends_open, in_turn, waits, AreLater}
 use Rattle.qmodel.specs.Trace.{Trace}

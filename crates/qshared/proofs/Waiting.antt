@@ -108,7 +108,9 @@ waits_longer [] short t = omega arith
 waits_longer (e ∷ more) short t =
     let h : waits (at_once short t) ≤ waits (at_once (more ++ short) t) = waits_longer more short t in
     elim (cases_Bool (eqb e.thread t)) [
-      | inl own ↦ rw own (let n = waits_more (at_once (more ++ short) t) (of_thread t e.completions) in omega (arith, h, n))
+      | inl own ↦
+          let n = waits_more (at_once (more ++ short) t) (of_thread t e.completions) in
+          rw own (omega (arith, h, n))
       | inr other ↦ rw (other, append-nil (at_once (more ++ short) t)) h
     ]
 

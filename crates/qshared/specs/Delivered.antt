@@ -66,7 +66,8 @@ EndsWith [] t x = ⊥
 EndsWith (e ∷ past) t x = ((e.thread == t) ≡ false) × (of_thread t e.completions ≡ x ∷ [])
 
 -- the thread at index i gets the completion x from the newest event of this history, which is valid and has
--- the six properties. It completes the thread's newest call. With x, the thread got all its later completions.
+-- the six properties. It completes the thread's newest call. With x, the thread got all its later
+-- completions.
 pub record IsDelivered (roster : List Member) (i : ℕ) (got : List Completion) (x : Completion)
     (made : Trace) : Type 0 where
   pub lawful : IsLawful roster made

@@ -42,7 +42,8 @@ fn hand_one(
     requires sized { length (threads_of (members_of kernel.now.threads)) ≡ (cells_id cells.now).slots }
     requires may { MayPut (threads_of (members_of kernel.now.threads)) (kernel_view seat.old) completion }
     requires seen { seen.now.name ≡ (origin_of cells.now).seen.name }
-    requires delivered { (i : ℕ) → place (threads_of (members_of kernel.now.threads)) completion.thread ≡ Some i
+    requires delivered { (i : ℕ)
+        → place (threads_of (members_of kernel.now.threads)) completion.thread ≡ Some i
         → IsDelivered (origin_of cells.now).roster.value i
         ((line (kernel_view seat.old) i).put ++ completion ∷ []) completion seen.now.trace }
     ensures cells { kernel_id seat.new ≡ kernel_id seat.old }
@@ -65,7 +66,8 @@ fn bit_of(place: usize) -> u64
 }
 
 /// Puts the completions of an event into their threads' cells, and sets the bit of every cell that is filled.
-/// `seen` is the history up to this event. If one of them is for `scratch`'s own thread, it isn't put but returned, and the thread's cell is closed.
+/// `seen` is the history up to this event. If one of them is for `scratch`'s own thread, it isn't put but
+/// returned, and the thread's cell is closed.
 /// No two completions are for the same thread, so their order doesn't matter: the last is put first.
 pub(crate) fn hand_out(
     seat: &mut KernelSeat<Delivery>,

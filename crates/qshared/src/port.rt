@@ -130,7 +130,8 @@ fn bytes_of(call: Call) -> Option<Bytes> {
 }
 
 /// Takes the completion that was put for a thread, if it is `pending` and there, and learns the history up to
-/// the event that made it. The function has only the thread's token and the cells. So it can take no lock and no memory, and can't wait for another thread.
+/// the event that made it. The function has only the thread's token and the cells. So it can take no lock and
+/// no memory, and can't wait for another thread.
 fn take(
     seat: &mut ThreadSeat<Delivery>,
     cells: &Cells<Delivery, Origin>,
@@ -399,8 +400,8 @@ impl<K: Tie> Port<K> {
             × (thread_of self.new.seat ≡ thread_of self.old.seat) × (self.new.calls ≡ self.old.calls)
             × (self.new.asked ≡ self.old.asked) × (self.new.last ≡ self.old.last) }
         ensures seen { Extends self.new.seen.trace self.old.seen.trace }
-        ensures came { IsAwaited K.names.roster self.old.thread self.old.asked.calls self.old.last.trace result
-            self.new.seen.trace }
+        ensures came { IsAwaited K.names.roster self.old.thread self.old.asked.calls self.old.last.trace
+            result self.new.seen.trace }
     {
         let found = if shared.looks {
             look(

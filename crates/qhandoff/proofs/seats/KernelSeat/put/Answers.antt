@@ -26,7 +26,8 @@ store-requires g c = let k = c.args.self.now.knows in
           _ _ _ _ _ _ c.args.completion c.args.cells.now.keyed c.word_of-word.ensures.word
           (in_put _ _ _ d _ _ _ _ c.word_of-word.ensures.cell k.0 c.load.ensures.2 c.exchange.ensures.3)
           c.requires.thread (ap (λ z. z.putting) (get_or-set_same d.lines c.args.thread _ idle_line near))
-          (subst (λ z. g.T.Delivered.may_be_put (origin_of c.args.cells.now) c.args.thread (z.put ++ c.args.completion ∷ []))
+          (subst (λ z. g.T.Delivered.may_be_put (origin_of c.args.cells.now) c.args.thread
+          (z.put ++ c.args.completion ∷ []))
           (sym (get_or-set_same d.lines c.args.thread _ idle_line near)) c.requires.allowed),
     )
 

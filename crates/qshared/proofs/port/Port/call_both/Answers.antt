@@ -1,5 +1,5 @@
-use Rattle.qshared.proofs.Common.{refl, subst, sym, ap, ◌∙◌, ◌++◌, ◌∷◌, [], cond, append_assoc, collected, gives, is_call}
-use Rattle.qshared.proofs.Common.{taken, Answered}
+use Rattle.qshared.proofs.Common.{refl, subst, sym, ap, ◌∙◌, ◌++◌, ◌∷◌, [], cond, append_assoc, collected}
+use Rattle.qshared.proofs.Common.{gives, is_call, taken, Answered}
 use Rattle.qshared.proofs.port.Port.call_both.Goals as goal
 use Rattle.qshared.proofs.port.Port.call_both.Goals.{in-Done+then-is_ok, in-Done+else-is_ok, in-Blocked, in-Refused}
 

@@ -1,5 +1,6 @@
 use Rattle.qshared.proofs.Common.{◌≡◌, length, sym, ◌∙◌, ap, refl, subst, inl, inr, arith, Some, with_event}
-use Rattle.qshared.proofs.Common.{cancelled_kernel_view, kernel_view, threads_of, seat_kept, Extends, WaitedBefore, calls_of, place}
+use Rattle.qshared.proofs.Common.{cancelled_kernel_view, kernel_view, threads_of, seat_kept, Extends, WaitedBefore}
+use Rattle.qshared.proofs.Common.{calls_of, place}
 use Rattle.qshared.proofs.Common.{AnswersAtTraces, matches_down, matches_made, matches_roster}
 use Rattle.qshared.proofs.Turns.{still_waited}
 use Rattle.qshared.proofs.Places.{seat_at_place}
