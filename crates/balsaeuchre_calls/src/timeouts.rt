@@ -71,7 +71,8 @@ impl<'a, E: Endpoint, R: Wait + Clock> Caller<'a, E, R> {
         ensures makes { MakesWithin pulse_in (Call.ReceivePulse chid) (E.history self.old.endpoint)
             (E.history self.new.endpoint) result }
         ensures came { ComesWithin (λ e. E.history e) E.came E.awaited self.old.endpoint
-            (Call.ReceivePulse chid) (E.seen self.old.endpoint) (E.seen self.new.endpoint) (E.history self.new.endpoint) result }
+            (Call.ReceivePulse chid) (E.seen self.old.endpoint) (E.seen self.new.endpoint)
+            (E.history self.new.endpoint) result }
     {
         alarms.set(self.rt, self.thread(), time)?;
         let pulse = self.msg_receive_pulse(chid);

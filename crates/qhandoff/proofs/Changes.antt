@@ -4,7 +4,8 @@ use Rattle.qhandoff.proofs.Common.{◌++◌, length, get_or, set, sym, refl, ap,
 use Rattle.qhandoff.proofs.Common.{Option, Some, None, length-set, length-append, get_or-set_other, get_or-set_same}
 use Rattle.qhandoff.proofs.Common.{eq-eqb, ne_eqb, dite, none, some, some-ne-none, ℕ_discrete, get_elem?, State, at_set}
 use Rattle.qhandoff.proofs.Common.{set_here, set_else, CellView, KernelView, ThreadView, View, Kernel, Thread, Joined}
-use Rattle.qhandoff.proofs.Common.{AreAllowed, KeepsRule, Fits, FitsPut, FitsTake, Settled, Knows, line, with_line, idle_line}
+use Rattle.qhandoff.proofs.Common.{AreAllowed, KeepsRule, Fits, FitsPut, FitsTake, Settled, Knows, line, with_line}
+use Rattle.qhandoff.proofs.Common.{idle_line}
 use Rattle.qhandoff.proofs.Common.{word_of, cell_of, IsBusy}
 use Rattle.std.proofs.lemmas.Bool.{false≢true}
 use Rattle.std.proofs.Math.Nat.{mul-div_cancel}

@@ -6,7 +6,8 @@ use Rattle.qhandoff.proofs.Common.{set_here, set_else, CellView, KernelView, Thr
 use Rattle.qhandoff.proofs.Common.{KeepsRule, Fits, Settled, Knows, line, with_line, word_of, joined_views}
 use Rattle.qhandoff.proofs.Common.{joined_kernel_view, one}
 use mathlib.Core.Option as maybe
-use Rattle.qhandoff.proofs.Changes.{St, allowed_stays, there, line_else, line_here, cells_stay, CellOk, still_empty, still_has}
+use Rattle.qhandoff.proofs.Changes.{St, allowed_stays, there, line_else, line_here, cells_stay, CellOk, still_empty}
+use Rattle.qhandoff.proofs.Changes.{still_has}
 use Rattle.qhandoff.proofs.Allowed.{Sat}
 
 module _ {T : Type 0} where

@@ -60,7 +60,7 @@ impl ThreadStates {
     }
 }
 
-/// Returns a row for each event of a trace. `states` are the states of the threads before the first event, and
+/// Returns a row for each event of a trace. `states` are the states of the threads before the first event and
 /// after each event.
 pub fn rows_of_trace(
     names: Context<'_>,
@@ -128,8 +128,8 @@ impl<'a> RunFacts<'a> {
         self.row(trace.thread(k), words, trace.completions(k), before, after)
     }
 
-    /// Returns the row of the last call so far, of which these are the thread, the words, the completions, and
-    /// the states before and after it.
+    /// Returns the row of the last call so far. These are its thread, its words, its completions, and the states
+    /// before and after it.
     fn row(
         &self,
         thread: ThreadNo,
@@ -142,7 +142,8 @@ impl<'a> RunFacts<'a> {
         ensures arrows { IfOk result
             (λ row. row.arrows.items ≡ filter_map (arrow_of self.now.callers.items thread) completions.now) }
         ensures changes { IfOk result
-            (λ row. row.changes.items ≡ filter_map (change_since before.now.levels.items) after.levels.items) }
+            (λ row. row.changes.items
+            ≡ filter_map (change_since before.now.levels.items) after.levels.items) }
         ensures blocked { IfOk result (λ row. row.blocked ≡ after.blocked) }
     {
         let (names, callers) = (self.names, self.callers.as_slice());

@@ -1,6 +1,7 @@
 -- One more line.
 use Rattle.qscript_names.proofs.Common.{◌≡◌, ℕ, ◌+◌, ◌<◌, ◌≤◌, Bool, true, false, List, [], ◌∷◌, ◌++◌, length, get_or}
-use Rattle.qscript_names.proofs.Common.{drop, ap, sym, ◌∙◌, arith, length-append, if◌then◌else◌, common_steps, append_assoc}
+use Rattle.qscript_names.proofs.Common.{drop, ap, sym, ◌∙◌, arith, length-append, if◌then◌else◌, common_steps}
+use Rattle.qscript_names.proofs.Common.{append_assoc}
 use Rattle.qscript_names.proofs.Common.{at_drop_more, list_any, bytes_eq, Names, with_line, with_process}
 use Rattle.qscript_names.specs.declared.line.Process.{Process}
 use Rattle.qscript_names.specs.declared.line.Process.TheVariants as processes

@@ -11,7 +11,8 @@ use Rattle.qscript_text.specs.Reading.Steps.{◌>>=◌}
 use Rattle.qscript_names.specs.Resolution.{values_in, with_operand}
 
 -- an operand is missing
-pub too_few : (labels : List Label) (sorts : List OperandKind) (i : ℕ) (d : OperandKind) (all : List Operand) (v : Values)
+pub too_few : (labels : List Label) (sorts : List OperandKind) (i : ℕ) (d : OperandKind) (all : List Operand)
+    (v : Values)
     → i < length sorts → length all ≡ 0 → values_in labels (drop i sorts) all v ≡ Err WordCount
 too_few labels sorts i d [] v within none = at_drop_more (λ ss. values_in labels ss [] v) sorts i d within
 too_few labels sorts i d (o ∷ all) v within none = absurd (omega (arith, none))

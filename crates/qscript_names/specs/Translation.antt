@@ -1,5 +1,6 @@
 -- The translation of a script with names, and its meaning.
-use Rattle.std.specs.Prelude.{◌≡◌, ◌≢◌, ℕ, ◌+◌, Bool, List, [], ◌∷◌, ◌++◌, length, Option, Some, None, Result, Ok, Err}
+use Rattle.std.specs.Prelude.{◌≡◌, ◌≢◌, ℕ, ◌+◌, Bool, List, [], ◌∷◌, ◌++◌, length, Option, Some, None}
+use Rattle.std.specs.Prelude.{Result, Ok, Err}
 use Rattle.std.specs.Prelude.{nat_lt, if◌then◌else◌, string_bytes}
 use Rattle.std.specs.List.{cons_option}
 use Rattle.qtables.specs.declared.member.Member.{Member}
@@ -29,7 +30,8 @@ with_content n (Err f) roster calls = Faulty n f
 -- a meaning with the line with this number, whose content depends on the roster above it and on whether
 -- calls are above it. The first fault stays
 abbrev pub and_line : ℕ → Meaning → (List Member → Bool → Result ScriptLine LineFault) → Meaning
-and_line n (Says roster calls) content = with_content n (content roster (nat_lt 0 (length calls))) roster calls
+and_line n (Says roster calls) content =
+    with_content n (content roster (nat_lt 0 (length calls))) roster calls
 and_line n (Faulty m f) content = Faulty m f
 and_line n TooLong content = TooLong
 

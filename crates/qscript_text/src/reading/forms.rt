@@ -1,7 +1,8 @@
 //! Reads the operands of a line, by their sorts.
 
 ghost use Rattle.std.specs.Prelude.{◌≡◌, [], ◌∷◌, IfOk, Ok};
-ghost use Rattle.qscript_text.specs.Reading.Forms.{bytes_at, member_of, no_values, number_at, value_of, values_of};
+ghost use Rattle.qscript_text.specs.Reading.Forms.{bytes_at, member_of, no_values, number_at, value_of};
+ghost use Rattle.qscript_text.specs.Reading.Forms.{values_of};
 ghost use Rattle.qscript_text.specs.Reading.Steps.{Gives};
 ghost use Rattle.qscript_text.specs.Reading.Words.{words_of};
 

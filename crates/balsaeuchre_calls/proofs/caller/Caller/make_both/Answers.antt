@@ -63,7 +63,8 @@ returns-in_err-completed_of-in-First-clause-came g c =
       was = _;
       both = was.came;
       gives =
-          leads_gives c.in-First.called (g.E.Endpoint.history c.args.self.now.endpoint).taken _ _ _ _ _ was.taken l.leads
+          leads_gives c.in-First.called (g.E.Endpoint.history c.args.self.now.endpoint).taken _ _ _ _ _ was.taken
+          l.leads
           l.waits was.waits;
       then = inl (refl, refl, leads_told _ _ _ _ l.leads ∙ was.told);
     }
@@ -78,7 +79,8 @@ returns-in_err-done-in-First-clause-came g c =
       was = _;
       both = was.came;
       gives =
-          leads_gives c.in-First.called (g.E.Endpoint.history c.args.self.now.endpoint).taken _ _ _ _ _ was.taken l.leads
+          leads_gives c.in-First.called (g.E.Endpoint.history c.args.self.now.endpoint).taken _ _ _ _ _ was.taken
+          l.leads
           l.waits was.waits;
       then = inl (refl, refl, leads_told _ _ _ _ l.leads ∙ was.told);
     }
@@ -90,7 +92,8 @@ returns-clause-came g c =
     let e = c.completed_of-in-First.new.self.endpoint in
     let last = c.make.new.self.endpoint in
     let came =
-    subst (λ d. ComesOf (λ e. g.E.Endpoint.history e) g.E.Endpoint.came g.E.Endpoint.awaited e d (g.E.Endpoint.seen last)
+    subst (λ d. ComesOf (λ e. g.E.Endpoint.history e) g.E.Endpoint.came g.E.Endpoint.awaited e d
+    (g.E.Endpoint.seen last)
     (g.E.Endpoint.history last)) was.turn.1 c.make.ensures.came in
     record {
       between = e;
@@ -98,7 +101,8 @@ returns-clause-came g c =
       was = _;
       both = was.came;
       gives =
-          leads_gives c.in-First.called (g.E.Endpoint.history c.args.self.now.endpoint).taken _ _ _ _ _ was.taken l.leads
+          leads_gives c.in-First.called (g.E.Endpoint.history c.args.self.now.endpoint).taken _ _ _ _ _ was.taken
+          l.leads
           l.waits was.waits;
       then = inr came;
     }

@@ -1,4 +1,5 @@
-use Rattle.qshared.proofs.Common.{[], ap, arith, matches_roster, rules, seated_kernel_view, subst, sym, threads_of, view_of, ◌∙◌}
+use Rattle.qshared.proofs.Common.{[], ap, arith, matches_roster, rules, seated_kernel_view, subst, sym, threads_of}
+use Rattle.qshared.proofs.Common.{view_of, ◌∙◌}
 use Rattle.qshared.proofs.Common.{MatchesAt}
 use Rattle.qshared.proofs.Deliveries.{seated_is}
 use Rattle.qshared.proofs.parts.Parts.new.Goals as goal
