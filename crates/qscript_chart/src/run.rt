@@ -128,8 +128,8 @@ impl<'a> RunFacts<'a> {
         self.row(trace.thread(k), words, trace.completions(k), before, after)
     }
 
-    /// Returns the row of the last call so far. These are its thread, its words, its completions, and the states
-    /// before and after it.
+    /// Returns the row of the last call so far. These are its thread, its words, its completions, and the
+    /// states before and after it.
     fn row(
         &self,
         thread: ThreadNo,
