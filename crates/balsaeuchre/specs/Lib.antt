@@ -26,9 +26,11 @@ pub use Rattle.qhandoff.specs.Words
 pub use Rattle.qshared.specs.Answered
 pub use Rattle.qshared.specs.Asking
 pub use Rattle.qshared.specs.Counting
+pub use Rattle.qshared.specs.Delivered
 pub use Rattle.qshared.specs.Due
 pub use Rattle.qshared.specs.Names
 pub use Rattle.qshared.specs.Naming
+pub use Rattle.qshared.specs.Performing
 pub use Rattle.qshared.specs.TwoCalls
 pub use Rattle.qshared.specs.Unrecorded
 -- the calls under QNX's names: the record of an endpoint, the effect of a call, and how its result is read
@@ -40,6 +42,7 @@ pub use Rattle.balsaeuchre_calls.specs.Coming
 pub use Rattle.balsaeuchre_calls.specs.Timing
 pub use Rattle.balsaeuchre_calls.specs.Closing
 -- the laws
+pub mod Completing
 pub mod Fitting
 pub use Rattle.qrules_laws.specs.Lawful as LawForms
 pub use Rattle.qrules_laws.specs.Completions

@@ -6,6 +6,7 @@
 #![tactic(auto)]
 
 pub mod calls;
+mod completing;
 mod fitting;
 pub mod history_laws;
 pub mod shared;

@@ -1,5 +1,5 @@
 -- Names of other crates and of the definitions, which many of these proofs use.
-pub use Rattle.balsaeuchre_calls.specs.Coming.{ComesOf, Gives}
+pub use Rattle.balsaeuchre_calls.specs.Coming.{Collects, ComesOf, Gives, WaitsFor}
 pub use Rattle.balsaeuchre_calls.specs.History.{History, told_by}
 pub use Rattle.balsaeuchre_calls.specs.Making.{Comes, Follows, Leads, Makes, MakesBoth, completed_in, read_off}
 pub use Rattle.balsaeuchre_calls.specs.Results.{Reading, reply_in, done_in, pulse_in, received_in}

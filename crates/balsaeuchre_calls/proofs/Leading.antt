@@ -1,6 +1,7 @@
 -- The effect of a call, or of two calls in turn, follows from its outcome.
 use Rattle.balsaeuchre_calls.proofs.Common.{Call, CallError, Completion, Done, Completed, Err, Follows, Gives, History}
-use Rattle.balsaeuchre_calls.proofs.Common.{Leads, List, Makes, MakesBoth, Ok, Reading, Result, [], ap, done_in}
+use Rattle.balsaeuchre_calls.proofs.Common.{Leads, List, Makes, MakesBoth, Ok, Reading, Result, WaitsFor, [], ap}
+use Rattle.balsaeuchre_calls.proofs.Common.{done_in, inl, inr}
 use Rattle.balsaeuchre_calls.proofs.Common.{completed_in, false, if◌then◌else◌, read_off, refl, sym, told_by, true, ⊤}
 use Rattle.balsaeuchre_calls.proofs.Common.{◌++◌, ◌∙◌, ◌∷◌, ◌≡◌}
 use Rattle.std.proofs.lemmas.List.{append-nil, append_assoc}
@@ -10,6 +11,7 @@ use Rattle.qshared.specs.declared.port.Called.{Called}
 use Rattle.qshared.specs.declared.port.Called.TheVariants as called
 use Rattle.qshared.specs.Counting.{is_call, gives, pends}
 use Rattle.qshared.specs.TwoCalls.{is_ok}
+use Rattle.qrules.specs.Trace.{Trace}
 use Rattle.balsaeuchre_calls.proofs.Reading.{makes_off}
 
 -- the endpoint's record after a call with this outcome, as the contract of `Endpoint::call` says
@@ -51,23 +53,27 @@ leads_told (called.Done x) before after result l = ap (λ h. h.told) l.0
 leads_told called.Blocked before after result l = l.4
 
 -- the completions collected with the outcome and after it satisfy `Gives`
-pub leads_gives : (answer : Called) (before : List Completion) (between after : History)
-    (result : Result Completed CallError)
-    → between.taken ≡ before ++ gives answer → Leads answer between after result → Gives answer before after.taken
-leads_gives (called.Refused errno given) before between after result took l = ap (λ h. h.taken) l.0 ∙ took
-    ∙ append-nil before
-leads_gives (called.Done x) before between after result took l = ap (λ h. h.taken) l.0 ∙ took
-leads_gives called.Blocked before between after result took l =
-    (l.0 ∷ [], l.1 ∙ ap (λ xs. xs ++ l.0 ∷ []) (took ∙ append-nil before))
+pub leads_gives : {Said Says : Completion → Trace → Type 0} (answer : Called) (before : List Completion)
+    (between after : History) (was seen : Trace) (result : Result Completed CallError)
+    → between.taken ≡ before ++ gives answer → Leads answer between after result
+    → WaitsFor Said answer between.taken after.taken was seen
+    → ((x : Completion) (p : Trace) → Said x p → Says x p) → Gives Says answer before after.taken was seen
+leads_gives (called.Refused errno given) before between after was seen result took l w says =
+    (ap (λ h. h.taken) l.0 ∙ took ∙ append-nil before, w)
+leads_gives (called.Done x) before between after was seen result took l w says = (ap (λ h. h.taken) l.0 ∙ took, w)
+leads_gives called.Blocked before between after was seen result took l w says =
+    inr (w.0, w.1 ∙ ap (λ xs. xs ++ w.0 ∷ []) (took ∙ append-nil before), w.2, says w.0 seen w.3)
 
 -- the same for two calls that were both made
-pub leads_gives_both : (x : Completion) (answer : Called) (before : List Completion) (between after : History)
-    (result : Result Completed CallError)
+pub leads_gives_both : {Said Says : Completion → Trace → Type 0} (x : Completion) (answer : Called)
+    (before : List Completion) (between after : History) (was seen : Trace) (result : Result Completed CallError)
     → between.taken ≡ before ++ x ∷ gives answer → Leads answer between after result
-    → Gives answer (before ++ x ∷ []) after.taken
-leads_gives_both x answer before between after result took l =
-    leads_gives answer (before ++ x ∷ []) between after result
-    (took ∙ sym (append_assoc before (x ∷ []) (gives answer))) l
+    → WaitsFor Said answer between.taken after.taken was seen
+    → ((x : Completion) (p : Trace) → Said x p → Says x p)
+    → Gives Says answer (before ++ x ∷ []) after.taken was seen
+leads_gives_both x answer before between after was seen result took l w says =
+    leads_gives answer (before ++ x ∷ []) between after was seen result
+    (took ∙ sym (append_assoc before (x ∷ []) (gives answer))) l w says
 
 -- a completion with the result `Ok` has the returned value `Ok`
 done_of_ok : (m : Mark) (buffer : List _) → is_ok m ≡ true → Ok tt ≡ done_in false m buffer

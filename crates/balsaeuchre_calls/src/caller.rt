@@ -2,7 +2,7 @@
 
 ghost use Rattle.std.specs.Prelude.{◌≡◌, ⊤, false, true, MatchResult};
 ghost use Rattle.qshared.specs.Counting.{pends};
-ghost use Rattle.balsaeuchre_calls.specs.Coming.{ComesOf, ComesOfBoth, ShutsDown};
+ghost use Rattle.balsaeuchre_calls.specs.Coming.{ComesOf, ComesOfBoth, ShutsDown, WaitsFor};
 ghost use Rattle.balsaeuchre_calls.specs.Making.{Leads, Makes, MakesBoth, completed_in};
 
 use crate::calls::Calls;
@@ -69,7 +69,7 @@ impl<'a, E: Endpoint, R: Wait> Caller<'a, E, R> {
     ) -> Result<T, X>
         requires { F.IsAlwaysCallable work }
         ensures { MatchResult result (λ _. ⊤)
-            (λ _. (e : _) × ShutsDown (λ e. E.history e) E.came e (E.history self.new.endpoint)
+            (λ _. (e : _) × ShutsDown (λ e. E.history e) E.came E.awaited e (E.history self.new.endpoint)
             (E.seen self.new.endpoint)) }
     {
         let done = work(self);
@@ -83,8 +83,8 @@ impl<'a, E: Endpoint, R: Wait> Caller<'a, E, R> {
         ensures made { MatchResult work
             (λ _. (E.history self.new.endpoint ≡ E.history self.old.endpoint)
             × (E.seen self.new.endpoint ≡ E.seen self.old.endpoint))
-            (λ _. ShutsDown (λ e. E.history e) E.came self.old.endpoint (E.history self.new.endpoint)
-            (E.seen self.new.endpoint)) }
+            (λ _. ShutsDown (λ e. E.history e) E.came E.awaited self.old.endpoint
+            (E.history self.new.endpoint) (E.seen self.new.endpoint)) }
     {
         if work.is_err() {
             let _ = self.make(Call::Shutdown);
@@ -97,7 +97,8 @@ impl<'a, E: Endpoint, R: Wait> Caller<'a, E, R> {
     fn completed_of(&mut self, called: Called) -> Result<Completed, CallError>
         requires { pends called false ≡ true → (E.history self.old.endpoint).pending ≡ true }
         ensures leads { Leads called (E.history self.old.endpoint) (E.history self.new.endpoint) result }
-        ensures seen { E.seen self.new.endpoint ≡ E.seen self.old.endpoint }
+        ensures waits { WaitsFor (E.waited self.old.endpoint) called (E.history self.old.endpoint).taken
+            (E.history self.new.endpoint).taken (E.seen self.old.endpoint) (E.seen self.new.endpoint) }
     {
         let (waited, completion) = match called {
             Called::Done(completion) => (false, completion),
@@ -116,8 +117,8 @@ impl<'a, E: Endpoint, R: Wait> Caller<'a, E, R> {
     pub(crate) fn make(&mut self, call: Call) -> Result<Completed, CallError>
         ensures makes { Makes completed_in call (E.history self.old.endpoint)
             (E.history self.new.endpoint) result }
-        ensures came { ComesOf (λ e. E.history e) E.came self.old.endpoint call (E.seen self.new.endpoint)
-            (E.history self.new.endpoint) }
+        ensures came { ComesOf (λ e. E.history e) E.came E.awaited self.old.endpoint call
+            (E.seen self.new.endpoint) (E.history self.new.endpoint) }
     {
         let called = self.endpoint.call(self.rt, call);
         self.completed_of(called)
@@ -129,8 +130,8 @@ impl<'a, E: Endpoint, R: Wait> Caller<'a, E, R> {
         ensures makes { MakesBoth completed_in first second (E.history self.old.endpoint)
             (E.history self.new.endpoint) result }
         ensures came { ComesOfBoth (λ e. E.history e)
-            (λ e. E.seen e) E.came E.came_both self.old.endpoint first second (E.seen self.new.endpoint)
-            (E.history self.new.endpoint) }
+            (λ e. E.seen e) E.came E.came_both E.awaited self.old.endpoint first second
+            (E.seen self.new.endpoint) (E.history self.new.endpoint) }
     {
         match self.endpoint.call_both(self.rt, first, second) {
             CalledPair::Both(_, called) => self.completed_of(called),
@@ -145,7 +146,7 @@ impl<'a, E: Endpoint, R: Wait> Caller<'a, E, R> {
 impl<'a, E: Endpoint, R: Wait> Calls for Caller<'a, E, R> {
     ghost made = { λ before call after completed. (
         Makes completed_in call (E.history before.endpoint) (E.history after.endpoint) completed
-        × ComesOf (λ e. E.history e) E.came before.endpoint call (E.seen after.endpoint)
+        × ComesOf (λ e. E.history e) E.came E.awaited before.endpoint call (E.seen after.endpoint)
         (E.history after.endpoint)) };
 
     fn alloc(&self) -> Global {

@@ -1,11 +1,13 @@
 //! The trait through which a thread's calls reach the kernel.
 
-ghost use Rattle.std.specs.Prelude.{◌≡◌, ◌++◌, [], ◌∷◌, Bool, true, false, MatchOption, if◌then◌else◌};
-ghost use Rattle.qhandoff.specs.Words.{taken};
+ghost use Rattle.std.specs.Prelude.{◌≡◌, ◌++◌, [], ◌∷◌, Bool, true, false, IfSome, MatchOption};
+ghost use Rattle.std.specs.Prelude.{List, if◌then◌else◌};
+ghost use Rattle.qshared.specs.Delivered.{taken};
 ghost use Rattle.qshared.specs.History.{Extends};
 ghost use Rattle.qshared.specs.Counting.{is_call, gives, pends};
 ghost use Rattle.qshared.specs.TwoCalls.{asked_by, gives_both, pends_both};
 ghost use Rattle.qmodel.specs.declared.call.Call.{Call as Asking};
+ghost use Rattle.qmodel.specs.declared.call.Completion.{Completion as Ending};
 ghost use Rattle.qshared.specs.declared.port.Called.{Called as Reply};
 ghost use Rattle.qshared.specs.declared.port.CalledPair.{CalledPair as Answers};
 ghost use Rattle.qrules.specs.Trace.{Trace};
@@ -50,6 +52,15 @@ pub trait Endpoint {
     /// Its statement about two calls in one turn.
     ghost came_both: { Self → Asking → Asking → Answers → Trace → Type 0 };
 
+    /// Its statement about a completion that it waited for: the endpoint before the wait, the completion, and
+    /// the prefix that it has seen after it.
+    ghost waited: { Self → Ending → Trace → Type 0 };
+
+    /// The same for calls and the wait after them: the endpoint before the calls, those of them that are
+    /// events, the prefix that it has seen after them, the completion, and the prefix that it has seen after
+    /// the wait.
+    ghost awaited: { Self → List Asking → Trace → Ending → Trace → Type 0 };
+
     /// Returns the thread that it belongs to.
     fn thread(&self) -> ThreadNo;
 
@@ -61,7 +72,9 @@ pub trait Endpoint {
         ensures taken { (history self.new).taken ≡ (history self.old).taken ++ gives result }
         ensures pending { (history self.new).pending ≡ pends result (history self.old).pending }
         ensures told { (history self.new).told ≡ told_by result }
-        ensures came { came self.old call result (seen self.new) };
+        ensures came { came self.old call result (seen self.new) }
+        ensures waits { (x : Ending) (after : Trace) → waited self.new x after
+            → awaited self.old (if is_call result then call ∷ [] else []) (seen self.new) x after };
 
     /// Makes two calls in turn: the second only if the first completes in its own event with the result `Ok`.
     /// A port takes the lock once for both.
@@ -71,7 +84,9 @@ pub trait Endpoint {
         ensures pending { (history self.new).pending ≡ pends_both result (history self.old).pending }
         ensures told { (history self.new).told ≡ told_by_both result }
         ensures turn { IsInTurn second result }
-        ensures came { came_both self.old first second result (seen self.new) };
+        ensures came { came_both self.old first second result (seen self.new) }
+        ensures waits { (x : Ending) (after : Trace) → waited self.new x after
+            → awaited self.old (asked_by first second result) (seen self.new) x after };
 
     /// Returns bytes whose memory the next reply or write reuses, if there are any.
     fn spare(&mut self) -> Option<Bytes>
@@ -87,7 +102,10 @@ pub trait Endpoint {
         ensures pending { MatchOption result ((history self.new).pending ≡ (history self.old).pending)
             (λ x. (history self.new).pending ≡ false) }
         ensures same { ((history self.new).asked ≡ (history self.old).asked)
-            × ((history self.new).told ≡ (history self.old).told) × (seen self.new ≡ seen self.old) };
+            × ((history self.new).told ≡ (history self.old).told) }
+        ensures seen { MatchOption result (seen self.new ≡ seen self.old)
+            (λ x. Extends (seen self.new) (seen self.old)) }
+        ensures waited { IfSome result (λ x. waited self.old x (seen self.new)) };
 
     /// Waits for the completion of the blocked call, and collects it.
     fn wait<R: Wait>(&mut self, rt: &R) -> Completion
@@ -95,7 +113,9 @@ pub trait Endpoint {
         ensures taken { (history self.new).taken ≡ (history self.old).taken ++ result ∷ [] }
         ensures pending { (history self.new).pending ≡ false }
         ensures same { ((history self.new).asked ≡ (history self.old).asked)
-            × ((history self.new).told ≡ (history self.old).told) × (seen self.new ≡ seen self.old) };
+            × ((history self.new).told ≡ (history self.old).told) }
+        ensures seen { Extends (seen self.new) (seen self.old) }
+        ensures waited { waited self.old result (seen self.new) };
 }
 
 /// The endpoint of a port: the port with its shared kernel.
@@ -168,6 +188,7 @@ pub fn told_by(called: &Called) -> LastOutcome
 
 impl<'a, K: Tie, L: Log> Endpoint for KernelPort<'a, K, L> {
     ghost use Rattle.qshared.specs.Answered.{Answered, AtPast};
+    ghost use Rattle.qshared.specs.Delivered.{IsAwaited};
     ghost use Rattle.qshared.specs.Due.{collected};
     ghost use Rattle.qshared.specs.TwoCalls.{AnsweredBoth};
 
@@ -187,6 +208,12 @@ impl<'a, K: Tie, L: Log> Endpoint for KernelPort<'a, K, L> {
     ghost came_both = { λ p c d a after. (
         AtPast K.names.roster p.port.thread p.port.asked.calls p.port.seen.trace
         (λ past. AnsweredBoth K.names.roster L.refuses L.admits p.port.thread c d a past after)) };
+
+    ghost waited = { λ p x after. (
+        IsAwaited K.names.roster p.port.thread p.port.asked.calls p.port.last.trace x after) };
+
+    ghost awaited = { λ p calls was x after. (
+        IsAwaited K.names.roster p.port.thread (p.port.asked.calls ++ calls) was x after) };
 
     fn thread(&self) -> ThreadNo {
         self.port.thread()

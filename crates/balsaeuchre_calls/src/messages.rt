@@ -1,7 +1,7 @@
 //! The calls in which a caller may wait: sends and receives.
 
 ghost use Rattle.std.specs.Prelude.{◌≡◌, replicate};
-ghost use Rattle.balsaeuchre_calls.specs.Coming.{ComesOf, ComesOfBothBytes, ComesOfBytes};
+ghost use Rattle.balsaeuchre_calls.specs.Coming.{Collects, ComesOf, ComesOfBothBytes, ComesOfBytes};
 ghost use Rattle.balsaeuchre_calls.specs.Making.{Makes, MakesBothOfBytes, MakesOfBytes};
 ghost use Rattle.balsaeuchre_calls.specs.Polling.{Polls, StartsOfBytes, option_in};
 ghost use Rattle.balsaeuchre_calls.specs.Results.{reply_in, pulse_in, received_in};
@@ -30,7 +30,7 @@ impl<'a, E: Endpoint, R: Wait> Caller<'a, E, R> {
     ) -> Result<Reply, CallError>
         ensures makes { MakesOfBytes reply_in (Call.Send coid message.now (replicate reply_len 0))
             (E.history self.old.endpoint) (E.history self.new.endpoint) result }
-        ensures came { ComesOfBytes (λ e. E.history e) E.came self.old.endpoint
+        ensures came { ComesOfBytes (λ e. E.history e) E.came E.awaited self.old.endpoint
             (Call.Send coid message.now (replicate reply_len 0)) (E.seen self.old.endpoint)
             (E.seen self.new.endpoint) (E.history self.new.endpoint) result }
     {
@@ -43,7 +43,7 @@ impl<'a, E: Endpoint, R: Wait> Caller<'a, E, R> {
     pub fn msg_receive(&mut self, chid: ChannelId, len: usize) -> Result<Received, CallError>
         ensures makes { MakesOfBytes received_in (Call.Receive chid (replicate len 0))
             (E.history self.old.endpoint) (E.history self.new.endpoint) result }
-        ensures came { ComesOfBytes (λ e. E.history e) E.came self.old.endpoint
+        ensures came { ComesOfBytes (λ e. E.history e) E.came E.awaited self.old.endpoint
             (Call.Receive chid (replicate len 0)) (E.seen self.old.endpoint) (E.seen self.new.endpoint)
             (E.history self.new.endpoint) result }
     {
@@ -56,7 +56,7 @@ impl<'a, E: Endpoint, R: Wait> Caller<'a, E, R> {
     pub fn msg_receive_pulse(&mut self, chid: ChannelId) -> Result<Pulse, CallError>
         ensures makes { Makes pulse_in (Call.ReceivePulse chid) (E.history self.old.endpoint)
             (E.history self.new.endpoint) result }
-        ensures came { ComesOf (λ e. E.history e) E.came self.old.endpoint (Call.ReceivePulse chid)
+        ensures came { ComesOf (λ e. E.history e) E.came E.awaited self.old.endpoint (Call.ReceivePulse chid)
             (E.seen self.new.endpoint) (E.history self.new.endpoint) }
     {
         self.make(Call::ReceivePulse(chid))?.pulse()
@@ -78,7 +78,7 @@ impl<'a, E: Endpoint, R: Wait> Caller<'a, E, R> {
             (Call.Receive chid (replicate len 0)) (E.history self.old.endpoint)
             (E.history self.new.endpoint) result }
         ensures came { ComesOfBothBytes (λ e. E.history e)
-            (λ e. E.seen e) E.came E.came_both self.old.endpoint (Call.Reply rcvid status bytes.now)
+            (λ e. E.seen e) E.came E.came_both E.awaited self.old.endpoint (Call.Reply rcvid status bytes.now)
             (Call.Receive chid (replicate len 0)) (E.seen self.new.endpoint)
             (E.history self.new.endpoint) result }
     {
@@ -97,7 +97,7 @@ impl<'a, E: Endpoint, R: Wait> Caller<'a, E, R> {
     ) -> Result<Option<Received>, CallError>
         ensures starts { StartsOfBytes received_in (Call.Receive chid (replicate len 0))
             (E.history self.old.endpoint) (E.history self.new.endpoint) result }
-        ensures came { ComesOfBytes (λ e. E.history e) E.came self.old.endpoint
+        ensures came { ComesOfBytes (λ e. E.history e) E.came E.awaited self.old.endpoint
             (Call.Receive chid (replicate len 0)) (E.seen self.old.endpoint) (E.seen self.new.endpoint)
             (E.history self.new.endpoint) result }
     {
@@ -113,7 +113,8 @@ impl<'a, E: Endpoint, R: Wait> Caller<'a, E, R> {
     /// always returns `None` if no receive was started.
     pub fn msg_receive_poll(&mut self) -> Result<Option<Received>, CallError>
         ensures polls { Polls received_in (E.history self.old.endpoint) (E.history self.new.endpoint) result }
-        ensures seen { E.seen self.new.endpoint ≡ E.seen self.old.endpoint }
+        ensures seen { Collects (E.waited self.old.endpoint) (E.history self.old.endpoint).taken
+            (E.history self.new.endpoint).taken (E.seen self.old.endpoint) (E.seen self.new.endpoint) }
     {
         match self.endpoint.poll() {
             Some(completion) => received_by(true, completion),

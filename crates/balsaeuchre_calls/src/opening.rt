@@ -4,7 +4,8 @@
 ghost use Rattle.std.specs.Prelude.{◌≡◌, ◌≢◌, ◌≤◌, [], ◌∷◌, IfErr, IfOk, length, map, sum};
 ghost use Rattle.qrules.specs.Trace.{followed_by};
 ghost use Rattle.qshared.specs.Asking.{AreCallsOf};
-ghost use Rattle.qhandoff.specs.Words.{taken, thread_of};
+ghost use Rattle.qhandoff.specs.Words.{thread_of};
+ghost use Rattle.qshared.specs.Delivered.{taken};
 ghost use Rattle.qshared.specs.History.{Extends};
 ghost use Rattle.qshared.specs.Due.{collected};
 ghost use Rattle.qshared.specs.Naming.{AreAll};

@@ -31,7 +31,7 @@ impl<'a, E: Endpoint, R: Wait + Clock> Caller<'a, E, R> {
     ) -> Result<Reply, CallError>
         ensures makes { MakesWithin reply_in (Call.Send coid message.now (replicate reply_len 0))
             (E.history self.old.endpoint) (E.history self.new.endpoint) result }
-        ensures came { ComesWithin (λ e. E.history e) E.came self.old.endpoint
+        ensures came { ComesWithin (λ e. E.history e) E.came E.awaited self.old.endpoint
             (Call.Send coid message.now (replicate reply_len 0)) (E.seen self.old.endpoint)
             (E.seen self.new.endpoint) (E.history self.new.endpoint) result }
     {
@@ -51,7 +51,7 @@ impl<'a, E: Endpoint, R: Wait + Clock> Caller<'a, E, R> {
     ) -> Result<Received, CallError>
         ensures makes { MakesWithin received_in (Call.Receive chid (replicate len 0))
             (E.history self.old.endpoint) (E.history self.new.endpoint) result }
-        ensures came { ComesWithin (λ e. E.history e) E.came self.old.endpoint
+        ensures came { ComesWithin (λ e. E.history e) E.came E.awaited self.old.endpoint
             (Call.Receive chid (replicate len 0)) (E.seen self.old.endpoint) (E.seen self.new.endpoint)
             (E.history self.new.endpoint) result }
     {
@@ -70,8 +70,9 @@ impl<'a, E: Endpoint, R: Wait + Clock> Caller<'a, E, R> {
     ) -> Result<Pulse, CallError>
         ensures makes { MakesWithin pulse_in (Call.ReceivePulse chid) (E.history self.old.endpoint)
             (E.history self.new.endpoint) result }
-        ensures came { ComesWithin (λ e. E.history e) E.came self.old.endpoint (Call.ReceivePulse chid)
-            (E.seen self.old.endpoint) (E.seen self.new.endpoint) (E.history self.new.endpoint) result }
+        ensures came { ComesWithin (λ e. E.history e) E.came E.awaited self.old.endpoint
+            (Call.ReceivePulse chid) (E.seen self.old.endpoint) (E.seen self.new.endpoint)
+            (E.history self.new.endpoint) result }
     {
         alarms.set(self.rt, self.thread(), time)?;
         let pulse = self.msg_receive_pulse(chid);

@@ -1,22 +1,22 @@
 //! A client's message gets a reply, and the client reports this to another client, by a channel of the
-//! program's own. In the history, the other client's next call comes after that message.
+//! program's own. In the history, the other client's next call comes after that reply.
 
-ghost use Rattle.std.specs.Prelude.{◌≡◌, true, IfOk, Ok, Some, option_map, replicate, slice_get};
+ghost use Rattle.std.specs.Prelude.{◌≡◌, IfOk, Ok, replicate};
 ghost use Rattle.qmodel.specs.declared.call.Call.TheVariants as calls;
 ghost use Rattle.balsaeuchre.specs.Answered.{Answered, AtPast};
 ghost use Rattle.balsaeuchre.specs.Coming.{ComesOf};
-ghost use Rattle.balsaeuchre.specs.Lawful.{event_call};
+ghost use Rattle.balsaeuchre.specs.Completing.{HasReturned};
 ghost use Rattle.balsaeuchre.specs.Making.{MakesOfBytes};
 ghost use Rattle.balsaeuchre.specs.Naming.{AreParts};
 ghost use Rattle.balsaeuchre.specs.Results.{reply_in};
-ghost use Rattle.balsaeuchre_examples.specs.Answered.{is_sent, ToldAfterAnswer};
+ghost use Rattle.balsaeuchre_examples.specs.Answered.{AfterAnswer};
 
 use crate::three_callers::three_callers;
 use crate::two_threads::serve;
 use balsaeuchre::calls::{
     CallError, Calls, Endpoint, KernelPort, PortCaller, Reply, Result, ThreadStatus,
 };
-use balsaeuchre::history_laws::in_real_time;
+use balsaeuchre::history_laws::{completions_are_seen, completions_in_real_time};
 use balsaeuchre::shared::{Log, ObservedPrefix, Parts, RecordedHistory, Shared, Tie};
 use balsaeuchre::{ChannelFlags, ChannelId, ConnectionId, Priority, ProcessNo, Roster, ThreadNo};
 use crossbeam_channel::{Receiver, Sender, bounded};
@@ -25,37 +25,37 @@ use std::marker::Brand;
 use std::sync::Wait;
 use std::thread::{Threads, join};
 
-/// The reply to a client's message, and the prefix of the history that the client has seen. The newest event
-/// of the prefix sends the message.
+/// The reply to a client's message, and the prefix of the history that the client has seen.
 #[derive(Drop)]
-struct Note<K: Tie> {
-    answer: Reply,
-    seen: ObservedPrefix<K>,
-    ghost sent: { is_sent seen ≡ true },
+pub struct Note<K: Tie> {
+    pub answer: Reply,
+    pub seen: ObservedPrefix<K>,
 }
 
-/// Sends a message, waits for its reply, and makes the note.
-fn ask<'a, 'p, K: Tie, L: Log, R: Wait>(
+/// Sends a message, waits for its reply, and makes the note. In the note's prefix the message has this reply.
+pub fn ask<'a, 'p, K: Tie, L: Log, R: Wait>(
     client: &mut PortCaller<'a, 'p, K, L, R>,
     coid: ConnectionId,
     message: &[u8],
 ) -> Result<Note<K>>
-    ensures answered { IfOk result
+    ensures made { IfOk result
         (λ note. MakesOfBytes reply_in (calls.Send coid message.now (replicate 8 0))
         (⟦<KernelPort<'p, K, L> as Endpoint>⟧.history client.old.endpoint)
         (⟦<KernelPort<'p, K, L> as Endpoint>⟧.history client.new.endpoint) (Ok note.answer)) }
-    ensures sent { IfOk result
-        (λ note. option_map event_call (slice_get note.seen 0)
-        ≡ Some (client.old.endpoint.port.thread, calls.Send coid message.now (replicate 8 0))) }
+    ensures answered { IfOk result
+        (λ note. HasReturned reply_in client.old.endpoint.port.thread
+        (calls.Send coid message.now (replicate 8 0)) note.answer note.seen) }
 {
     let answer = client.msg_send(coid, message, 8)?;
+    completions_are_seen::<L>();
     Ok(Note {
         answer,
         seen: client.seen(),
     })
 }
 
-/// Learns the note, and reads a thread's state. By then the kernel's history has the client's message.
+/// Learns the note, and reads a thread's state. By then the kernel's history has the reply to the client's
+/// message.
 fn look<'a, 'p, K: Tie, L: Log, R: Wait>(
     other: &mut PortCaller<'a, 'p, K, L, R>,
     note: &Note<K>,
@@ -63,13 +63,14 @@ fn look<'a, 'p, K: Tie, L: Log, R: Wait>(
 ) -> Result<ThreadStatus>
     ensures { ComesOf (λ e. ⟦<KernelPort<'p, K, L> as Endpoint>⟧.history e)
         (λ e c a after. AtPast K.names.roster e.port.thread e.port.asked.calls e.port.seen.trace
-        (ToldAfterAnswer note.now.seen
+        (AfterAnswer reply_in note.now.answer note.now.seen
         (λ past. Answered K.names.roster L.refuses L.admits e.port.thread c a past after)))
-        other.old.endpoint (calls.State thread) other.new.endpoint.port.seen.trace
+        ⟦<KernelPort<'p, K, L> as Endpoint>⟧.awaited other.old.endpoint (calls.State thread)
+        other.new.endpoint.port.seen.trace
         (⟦<KernelPort<'p, K, L> as Endpoint>⟧.history other.new.endpoint) }
 {
     other.learn(&note.seen);
-    in_real_time();
+    completions_in_real_time();
     other.state(thread)
 }
 

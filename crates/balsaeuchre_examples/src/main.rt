@@ -10,6 +10,7 @@ mod kept_waiting;
 mod one_thread;
 mod reply;
 mod shutdown;
+mod stored;
 mod three_callers;
 mod three_threads;
 mod timeout;
@@ -66,6 +67,8 @@ fn main(rt: HostRuntime) -> Result<(), Fail> {
     let (answer, state) = answered::told_of_an_answer(&rt, alloc)?;
     let bytes = answer.bytes();
     println!(rt; "notified of a reply\n  {bytes:?} {state:?}")?;
+    let reply = stored::stored(&rt, alloc, 7)?;
+    println!(rt; "stored and found\n  {:?}", reply.bytes())?;
     println!(rt; "kept waiting")?;
     for reply in &kept_waiting::kept_waiting(alloc)? {
         show_reply(&rt, reply)?;

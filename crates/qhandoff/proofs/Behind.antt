@@ -21,7 +21,8 @@ module _ {T : Type 0} where
   fits_near (suc (suc zero)) l h o f = ahead h.taken l.put f.2.0 f.2.1
   fits_near (suc (suc (suc w))) l h o f = absurd f
 
-  pub taken_is_near : (n : ℕ) (s : St T) (d : KernelView T) (h : ThreadView T) (i j : ℕ) → KeepsRule n s
+module _ {T : Type 0} {P : ℕ → List T → Type 0} where
+  pub taken_is_near : (n : ℕ) (s : St T) (d : KernelView T) (h : ThreadView T) (i j : ℕ) → KeepsRule P n s
       → get_elem? s.views i ≡ some (Kernel d) → get_elem? s.views j ≡ some (Thread h) → h.thread < n
       → Near h.taken (line d h.thread).put
   taken_is_near n s d h i j k at at' near = let near' =

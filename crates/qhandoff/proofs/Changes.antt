@@ -4,7 +4,8 @@ use Rattle.qhandoff.proofs.Common.{◌++◌, length, get_or, set, sym, refl, ap,
 use Rattle.qhandoff.proofs.Common.{Option, Some, None, length-set, length-append, get_or-set_other, get_or-set_same}
 use Rattle.qhandoff.proofs.Common.{eq-eqb, ne_eqb, dite, none, some, some-ne-none, ℕ_discrete, get_elem?, State, at_set}
 use Rattle.qhandoff.proofs.Common.{set_here, set_else, CellView, KernelView, ThreadView, View, Kernel, Thread, Joined}
-use Rattle.qhandoff.proofs.Common.{KeepsRule, Fits, FitsPut, FitsTake, Settled, Knows, line, with_line, idle_line}
+use Rattle.qhandoff.proofs.Common.{AreAllowed, KeepsRule, Fits, FitsPut, FitsTake, Settled, Knows, line, with_line}
+use Rattle.qhandoff.proofs.Common.{idle_line}
 use Rattle.qhandoff.proofs.Common.{word_of, cell_of, IsBusy}
 use Rattle.std.proofs.lemmas.Bool.{false≢true}
 use Rattle.std.proofs.Math.Nat.{mul-div_cancel}
@@ -85,16 +86,26 @@ module _ {T : Type 0} where
       subst (λ (z : ℕ × CellView T × ThreadView T × maybe.Option (maybe.Option (Option T))). CellOk z.0 z.1 z.2 z.3)
       (λ i. (sym (ws u ne) i, sym (ls u ne) i, sym (hs u ne) i, sym (os u ne) i)) (old u h))
 
+  -- every line except t is unchanged
+  pub allowed_stays : (P : ℕ → List T → Type 0) (d : KernelView T) (t : ℕ) (l : CellView T) → t < length d.lines
+      → ((u : ℕ) → AreAllowed P u (line d u)) → AreAllowed P t l → (u : ℕ) → AreAllowed P u (line (with_line d t l) u)
+  allowed_stays P d t l near old now u =
+      dite (ℕ_discrete u t)
+      (λ e. subst (λ (z : ℕ × CellView T). AreAllowed P z.0 z.1)
+      (λ i. (sym e i, sym (line_here d t l u e near) i)) now)
+      (λ ne. subst (AreAllowed P u) (sym (line_else d t l u ne)) (old u))
+
+module _ {T : Type 0} {P : ℕ → List T → Type 0} where
   -- the kernel's token changes cell t
-  kernel_step : (n t : ℕ) (s : St T) (k : KeepsRule n s) → t < n → (w : ℕ) (l : CellView T) (homes : Homes T)
+  kernel_step : (n t : ℕ) (s : St T) (k : KeepsRule P n s) → t < n → (w : ℕ) (l : CellView T) (homes : Homes T)
       → length homes ≡ n → ((u : ℕ) → u ≢ t → get_elem? homes u ≡ get_elem? s.homes u)
-      → l.taken ≡ (line k.kernel_view t).taken → Fits w l (k.thread_view t) (get_elem? homes t)
-      → KeepsRule n record {
+      → l.taken ≡ (line k.kernel_view t).taken → Fits w l (k.thread_view t) (get_elem? homes t) → AreAllowed P t l
+      → KeepsRule P n record {
         words = set s.words (word_of t) w;
         homes = homes;
         views = set s.views 0 (Kernel (with_line k.kernel_view t l));
       }
-  kernel_step n t s k h w l homes long others same fits =
+  kernel_step n t s k h w l homes long others same fits fine =
       let d : KernelView T = with_line k.kernel_view t l in
       let near : t < length k.kernel_view.lines =
       omega (arith, k.lines) in
@@ -118,37 +129,45 @@ module _ {T : Type 0} where
               sym (line_here k.kernel_view t l t refl near) i,
             ))
             (fits, subst (λ o. Settled o (k.thread_view t)) (sym same) (k.each_cell t h).1));
+        allowed = allowed_stays P k.kernel_view t l near k.allowed fine;
         each_seat = λ j v e. ⊎_elim (λ (q : (j ≡ 0) × (Kernel d ≡ v)). subst (Knows d k.thread_view j) q.1 (q.0, refl))
             (λ (q : (j ≢ 0) × (get_elem? s.views j ≡ some v)). knows_kernel k.kernel_view d k.thread_view j v q.0 stays
             (k.each_seat j v q.1)) (at_set s.views 0 j (Kernel d) v e);
       }
 
   -- the same, for a token that knows a kernel view
-  pub kernel_changes : (n id t : ℕ) (s : St T) (k : KeepsRule n s) (d : KernelView T)
+  pub kernel_changes : (n id t : ℕ) (s : St T) (k : KeepsRule P n s) (d : KernelView T)
       → get_elem? s.views id ≡ some (Kernel d) → t < n → (w : ℕ) (l : CellView T) (homes : Homes T)
       → length homes ≡ n → ((u : ℕ) → u ≢ t → get_elem? homes u ≡ get_elem? s.homes u) → l.taken ≡ (line d t).taken
-      → Fits w l (k.thread_view t) (get_elem? homes t)
-      → KeepsRule n record {
+      → Fits w l (k.thread_view t) (get_elem? homes t) → AreAllowed P t l
+      → KeepsRule P n record {
         words = set s.words (word_of t) w;
         homes = homes;
         views = set s.views id (Kernel (with_line d t l));
       }
-  kernel_changes n id t s k d at h w l homes long others same fits = let q = k.each_seat id (Kernel d) at in
-      subst (λ (z : ℕ × KernelView T). KeepsRule n record {
+  kernel_changes n id t s k d at h w l homes long others same fits fine = let q = k.each_seat id (Kernel d) at in
+      subst (λ (z : ℕ × KernelView T). KeepsRule P n record {
         words = set s.words (word_of t) w;
         homes = homes;
         views = set s.views z.0 (Kernel (with_line z.1 t l));
       }) (λ i. (sym q.0 i, sym q.1 i))
-      (kernel_step n t s k h w l homes long others (same ∙ ap (λ z. (line z t).taken) q.1) fits)
+      (kernel_step n t s k h w l homes long others (same ∙ ap (λ z. (line z t).taken) q.1) fits fine)
 
   -- the conditions of cell t, as the kernel's token sees them
-  pub kernel_sees : (n id t : ℕ) (s : St T) (k : KeepsRule n s) (d : KernelView T)
+  pub kernel_sees : (n id t : ℕ) (s : St T) (k : KeepsRule P n s) (d : KernelView T)
       → get_elem? s.views id ≡ some (Kernel d) → t < n
       → Fits (get_or s.words (word_of t) 0) (line d t) (k.thread_view t) (get_elem? s.homes t)
   kernel_sees n id t s k d at h =
       subst (λ z. Fits (get_or s.words (word_of t) 0) (line z t) (k.thread_view t) (get_elem? s.homes t))
       (sym (k.each_seat id (Kernel d) at).1) (k.each_cell t h).0
 
+  -- the condition on the values that were put for thread t, as the kernel's token sees it
+  pub kernel_allowed : (n id t : ℕ) (s : St T) (k : KeepsRule P n s) (d : KernelView T)
+      → get_elem? s.views id ≡ some (Kernel d) → AreAllowed P t (line d t)
+  kernel_allowed n id t s k d at =
+      subst (λ z. AreAllowed P t (line z t)) (sym (k.each_seat id (Kernel d) at).1) (k.allowed t)
+
+module _ {T : Type 0} where
   knows_thread : (d : KernelView T) (thread_view : ℕ → ThreadView T) (t : ℕ) (h' : ThreadView T) (j : ℕ) (v : View T)
       → j ≢ suc t → Knows d thread_view j v → Knows d (thread_view_at thread_view t h') j v
   knows_thread d thread_view t h' j (Kernel e) n k = k
@@ -156,12 +175,13 @@ module _ {T : Type 0} where
       (k.0, k.1 ∙ sym (other_thread_view thread_view t h' h.thread (λ e. n (k.0 ∙ ap suc e))), k.2)
   knows_thread d thread_view t h' j Joined n k = tt
 
+module _ {T : Type 0} {P : ℕ → List T → Type 0} where
   -- the token of thread t changes its cell
-  pub thread_changes : (n id t : ℕ) (s : St T) (k : KeepsRule n s) (h : ThreadView T)
+  pub thread_changes : (n id t : ℕ) (s : St T) (k : KeepsRule P n s) (h : ThreadView T)
       → get_elem? s.views id ≡ some (Thread h) → h.thread ≡ t → t < n → (w : ℕ) (h' : ThreadView T) (homes : Homes T)
       → length homes ≡ n → ((u : ℕ) → u ≢ t → get_elem? homes u ≡ get_elem? s.homes u) → h'.thread ≡ t
       → Fits w (line k.kernel_view t) h' (get_elem? homes t)
-      → KeepsRule n record { words = set s.words (word_of t) w; homes = homes; views = set s.views id (Thread h') }
+      → KeepsRule P n record { words = set s.words (word_of t) w; homes = homes; views = set s.views id (Thread h') }
   thread_changes n id t s k h at is near w h' homes long others is' fits =
       let q = k.each_seat id (Thread h) at in
       let seat : id ≡ suc t = q.0 ∙ ap suc is in
@@ -192,6 +212,7 @@ module _ {T : Type 0} where
               sym (own_thread_view k.thread_view t h' t refl) i,
             ))
             (fits, subst (λ o. Settled o h') (sym open_) tt));
+        allowed = k.allowed;
         each_seat =
             λ j v e.
             ⊎_elim (λ (z : (j ≡ id)
@@ -205,13 +226,14 @@ module _ {T : Type 0} where
       }
 
   -- the conditions of its cell, as the token of thread t sees them
-  pub thread_sees : (n id t : ℕ) (s : St T) (k : KeepsRule n s) (h : ThreadView T)
+  pub thread_sees : (n id t : ℕ) (s : St T) (k : KeepsRule P n s) (h : ThreadView T)
       → get_elem? s.views id ≡ some (Thread h) → h.thread ≡ t → t < n
       → Fits (get_or s.words (word_of t) 0) (line k.kernel_view t) h (get_elem? s.homes t)
   thread_sees n id t s k h at is near =
       subst (λ z. Fits (get_or s.words (word_of t) 0) (line k.kernel_view t) z (get_elem? s.homes t))
       (ap k.thread_view (sym is) ∙ sym (k.each_seat id (Thread h) at).1) (k.each_cell t near).0
 
+module _ {T : Type 0} where
   nothing : (x : T) (o : Option T) → o ≡ None → o ≡ Some x → ⊥
   nothing x o e g = let P : Option T → Type 0 = elim [ None ↦ Unit {0} | Some y ↦ ⊥ ] in subst P (sym e ∙ g) tt
 
@@ -238,7 +260,7 @@ module _ {T : Type 0} where
   fits_idle zero l h o f e = f.0
   fits_idle (suc w) l h o f e = absurd (omega arith)
 
-  longer : (xs ys : List T) (x : T) → xs ≡ ys ++ x ∷ [] → ¬ (xs ≡ [])
+  pub longer : (xs ys : List T) (x : T) → xs ≡ ys ++ x ∷ [] → ¬ (xs ≡ [])
   longer xs ys x e z = let p : length xs ≡ length (ys ++ x ∷ []) = ap length e in
       let q : length xs ≡ 0 =
       ap length z in omega (arith, length-append ys (x ∷ []))
@@ -281,6 +303,15 @@ module _ {T : Type 0} where
   fits_take (suc (suc zero)) l h o f e b =
       (f.2.0, still_has h f.2.0 o f.2.2 b, (f.0, f.1, (f.2.0, f.2.1, inr (refl, refl))))
   fits_take (suc (suc (suc w))) l h o f e b = absurd f
+
+  -- a full cell: the thread took all values that were put, except the one that it takes now
+  pub fits_full : (w : ℕ) (l : CellView T) (h : ThreadView T) (o : maybe.Option (maybe.Option (Option T)))
+      (f : Fits w l h o) (e : w ≡ 2) (b : h.taking ≡ None) → l.put ≡ h.taken ++ (fits_take w l h o f e b).0 ∷ []
+  unfolding fits_take
+  fits_full zero l h o f e b = absurd (omega arith)
+  fits_full (suc zero) l h o f e b = absurd (omega arith)
+  fits_full (suc (suc zero)) l h o f e b = f.2.1
+  fits_full (suc (suc (suc w))) l h o f e b = absurd f
 
   inside : T → Option T → T
   inside d None = d

@@ -2,7 +2,8 @@
 pub use Rattle.atomic_table.proofs.Lists.{at_last, at_longer, at_set, exchanged, set_again, set_else, set_here}
 pub use Rattle.atomic_table.specs.Table.{Act, Allows, Final, Joins, Me, Seen, Splits, State, Valid, carried_after}
 pub use Rattle.atomic_table.specs.Table.{gives, keeps, opening, rest, step, stepped, takes}
-pub use Rattle.qhandoff.specs.Rule.{Fits, FitsPut, FitsTake, KeepsRule, Knows, Settled, Slot, cell_of, idle_line, line}
+pub use Rattle.qhandoff.specs.Rule.{AreAllowed, Fits, FitsPut, FitsTake, KeepsRule, Knows, Settled, Slot, cell_of}
+pub use Rattle.qhandoff.specs.Rule.{idle_line, line}
 pub use Rattle.qhandoff.specs.Rule.{new_thread_view, with_line, word_of}
 pub use Rattle.qhandoff.specs.Steps.{BeginPutTells, CancelTells, EndPutTells, GiveBackTells, IsBusy, OpenTells}
 pub use Rattle.qhandoff.specs.Steps.{TakeTells, cancelled_kernel_view, kernel_view_in, first_view, thread_view_in}

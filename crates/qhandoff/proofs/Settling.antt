@@ -6,7 +6,8 @@ use Rattle.qhandoff.proofs.Common.{set_here, set_else, CellView, KernelView, Thr
 use Rattle.qhandoff.proofs.Common.{KeepsRule, Fits, Settled, Knows, line, with_line, word_of, joined_views}
 use Rattle.qhandoff.proofs.Common.{joined_kernel_view, one}
 use mathlib.Core.Option as maybe
-use Rattle.qhandoff.proofs.Changes.{St, there, line_else, line_here, cells_stay, CellOk, still_empty, still_has}
+use Rattle.qhandoff.proofs.Changes.{St, allowed_stays, there, line_else, line_here, cells_stay, CellOk, still_empty}
+use Rattle.qhandoff.proofs.Changes.{still_has}
 use Rattle.qhandoff.proofs.Allowed.{Sat}
 
 module _ {T : Type 0} where
@@ -25,9 +26,10 @@ module _ {T : Type 0} where
       (q.0, q.1, ap (λ z. z.taken) (line_else d t l h.thread (λ e. m (q.0 ∙ ap suc e))) ∙ q.2)
   knows_joined d t l thread_view j Joined n m q = tt
 
-  joins_step : (n other : ℕ) (s : St T) (k : KeepsRule n s) (h : ThreadView T) → h.thread < n → h.taking ≡ None
+module _ {T : Type 0} {P : ℕ → List T → Type 0} where
+  joins_step : (n other : ℕ) (s : St T) (k : KeepsRule P n s) (h : ThreadView T) → h.thread < n → h.taking ≡ None
       → get_elem? s.views other ≡ some (Thread h)
-      → KeepsRule n record {
+      → KeepsRule P n record {
         words = s.words;
         homes = s.homes;
         views = set (set s.views 0 (Kernel (joined_kernel_view k.kernel_view h))) other Joined;
@@ -66,6 +68,7 @@ module _ {T : Type 0} where
                 ap (λ z. z.taking) (sym q.1) ∙ idle,
               ),
             ));
+        allowed = allowed_stays P k.kernel_view t l' long k.allowed (k.allowed t);
         each_seat = λ j v e. ⊎_elim (λ (z : (j ≡ other) × (Joined ≡ v)). subst (Knows d' k.thread_view j) z.1 tt)
             (λ (z : (j ≢ other) × (get_elem? vs j ≡ some v)). ⊎_elim
             (λ (y : (j ≡ 0) × (Kernel d' ≡ v)). subst (Knows d' k.thread_view j) y.1 (y.0, refl))
@@ -75,9 +78,9 @@ module _ {T : Type 0} where
       }
 
   joins_here : (n id other : ℕ) (d : KernelView T) (h : ThreadView T) → h.thread < n → h.taking ≡ None
-      → Joins (KeepsRule n) id (Kernel d) other (Thread h) (joined_views (Kernel d) (Thread h)) Joined
+      → Joins (KeepsRule P n) id (Kernel d) other (Thread h) (joined_views (Kernel d) (Thread h)) Joined
   joins_here n id other d h near idle s k at apart at' = let q = k.each_seat id (Kernel d) at in
-      subst (λ (z : ℕ × KernelView T). KeepsRule n record {
+      subst (λ (z : ℕ × KernelView T). KeepsRule P n record {
         words = s.words;
         homes = s.homes;
         views = set (set s.views z.0 (Kernel (joined_kernel_view z.1 h))) other Joined;
@@ -86,11 +89,12 @@ module _ {T : Type 0} where
 
   pub join_allowed : (key n id other : ℕ) (m m' : Sat T) (d : KernelView T) (h : ThreadView T) → key ≡ n
       → m ≡ (Kernel d, []) → m' ≡ (Thread h, []) → h.thread < n → h.taking ≡ None
-      → Joins (KeepsRule key) id m.0 other m'.0 (joined_views m.0 m'.0) Joined
+      → Joins (KeepsRule P key) id m.0 other m'.0 (joined_views m.0 m'.0) Joined
   join_allowed key n id other m m' d h e is is' near idle =
-      subst (λ (z : ℕ × Sat T × Sat T). Joins (KeepsRule z.0) id z.1.0 other z.2.0 (joined_views z.1.0 z.2.0) Joined)
+      subst (λ (z : ℕ × Sat T × Sat T). Joins (KeepsRule P z.0) id z.1.0 other z.2.0 (joined_views z.1.0 z.2.0) Joined)
       (λ i. (sym e i, sym is i, sym is' i)) (joins_here n id other d h near idle)
 
+module _ {T : Type 0} where
   -- the content of a closed cell, if its token was joined and nothing is being put into it
   abbrev pub Closes : ℕ → CellView T → List T → maybe.Option (Option T) → Type 0
   Closes w l ts x = (o : Option T) × (x ≡ some o) × (ts ++ one o ≡ l.put)
@@ -112,13 +116,14 @@ module _ {T : Type 0} where
       × (h.taking ≡ None)
   settled o h ts e s = let r : Settled (Some ts) h = subst (λ z. Settled z h) e s in r
 
+module _ {T : Type 0} {P : ℕ → List T → Type 0} where
   pub closed_cell : (n id : ℕ) (m : Sat T) (d : KernelView T) (ws : List ℕ) (xs : List (Option T)) → m ≡ (Kernel d, [])
-      → Final (Seen (KeepsRule n) id m.0) ws xs
+      → Final (Seen (KeepsRule P n) id m.0) ws xs
       → (t : ℕ) (ts : List T) → t < n → (line d t).putting ≡ false → (line d t).taken ≡ Some ts → (o : Option T)
       × (get_elem? xs t ≡ some o) × (ts ++ one o ≡ (line d t).put)
   closed_cell n id m d ws xs is fin t ts near quiet was =
       let s : St T = fin.0 in
-      let k : KeepsRule n s = fin.1.0 in
+      let k : KeepsRule P n s = fin.1.0 in
       let q = k.each_seat id (Kernel d) (fin.1.1 ∙ ap (λ (z : Sat T). some z.0) is) in
       let cell : CellOk (get_or s.words (word_of t) 0) (line d t) (k.thread_view t) (get_elem? s.homes t) =
       subst (λ z. CellOk (get_or s.words (word_of t) 0) (line z t) (k.thread_view t) (get_elem? s.homes t)) (sym q.1)

@@ -37,7 +37,8 @@ module _ {T : Type 0} where
   knows_first n zero v e = subst (Knows (seated_kernel_view 0 n) new_thread_view 0) (some-injective _ v e) (refl, refl)
   knows_first n (suc j) v e = absurd (some-ne-none v (sym e))
 
-  starts_here : (n : ℕ) → KeepsRule {T = T} n (opening (replicate (n * 8) 0) (replicate n None) (first_view n))
+module _ {T : Type 0} {P : ℕ → List T → Type 0} where
+  starts_here : (n : ℕ) → KeepsRule {T = T} P n (opening (replicate (n * 8) 0) (replicate n None) (first_view n))
   starts_here n = record {
     kernel_view = seated_kernel_view 0 n;
     thread_view = new_thread_view;
@@ -56,14 +57,16 @@ module _ {T : Type 0} where
           sym (line_at_first n t idle_line) i,
           sym (all_at_home n t None h) i,
         )) ((refl, refl, refl, refl, refl), tt);
+    allowed = λ t. inl (ap (λ l. l.put) (line_at_first n t idle_line));
     each_seat = knows_first n;
   }
 
   pub starts : (n : ℕ) (words : List ℕ) → words ≡ replicate (n * 8) 0
-      → KeepsRule {T = T} n (opening words (replicate n None) (first_view n))
-  starts n words e = subst (λ ws. KeepsRule {T = T} n (opening ws (replicate n None) (first_view n))) (sym e)
+      → KeepsRule {T = T} P n (opening words (replicate n None) (first_view n))
+  starts n words e = subst (λ ws. KeepsRule {T = T} P n (opening ws (replicate n None) (first_view n))) (sym e)
       (starts_here n)
 
+module _ {T : Type 0} where
   knows_more : (d : KernelView T) (thread_view : ℕ → ThreadView T) (k j : ℕ) (v : View T) → j ≢ 0
       → Knows d thread_view j v
       → Knows (record d { seats = k }) thread_view j v
@@ -74,8 +77,9 @@ module _ {T : Type 0} where
   abbrev wider : List (View T) → KernelView T → List (View T)
   wider views d = set views 0 (Kernel (record d { seats = suc d.seats })) ++ Thread (new_thread_view d.seats) ∷ []
 
-  splits_step : (n : ℕ) (s : St T) (k : KeepsRule n s)
-      → KeepsRule n record { words = s.words; homes = s.homes; views = wider s.views k.kernel_view }
+module _ {T : Type 0} {P : ℕ → List T → Type 0} where
+  splits_step : (n : ℕ) (s : St T) (k : KeepsRule P n s)
+      → KeepsRule P n record { words = s.words; homes = s.homes; views = wider s.views k.kernel_view }
   splits_step n s k = let d = k.kernel_view in
       let d' : KernelView T = record d { seats = suc d.seats } in
       let vs = set s.views 0 (Kernel d') in
@@ -92,6 +96,7 @@ module _ {T : Type 0} where
         seats = omega (arith, length-append vs (Thread (new_thread_view d.seats) ∷ []), long);
         unmade = λ t h. k.unmade t (omega arith);
         each_cell = k.each_cell;
+        allowed = k.allowed;
         each_seat = λ j v e. ⊎_elim
             (λ old. ⊎_elim (λ (q : (j ≡ 0) × (Kernel d' ≡ v)). subst (Knows d' k.thread_view j) q.1 (q.0, refl))
             (λ (q : (j ≢ 0) × (get_elem? s.views j ≡ some v)). knows_more d k.thread_view (suc d.seats) j v q.0
@@ -104,9 +109,9 @@ module _ {T : Type 0} where
       }
 
   splits_here : (n id : ℕ) (d : KernelView T)
-      → Splits (KeepsRule n) id (Kernel d) (seats_one_more (Kernel d)) (next_thread_view (Kernel d))
+      → Splits (KeepsRule P n) id (Kernel d) (seats_one_more (Kernel d)) (next_thread_view (Kernel d))
   splits_here n id d s k at = let q = k.each_seat id (Kernel d) at in
-      subst (λ (z : ℕ × KernelView T). KeepsRule n record {
+      subst (λ (z : ℕ × KernelView T). KeepsRule P n record {
         words = s.words;
         homes = s.homes;
         views =
@@ -114,7 +119,7 @@ module _ {T : Type 0} where
       }) (λ i. (sym q.0 i, sym q.1 i)) (splits_step n s k)
 
   pub split_allowed : (n id : ℕ) (m : Sat T) (d : KernelView T) → m ≡ (Kernel d, [])
-      → Splits (KeepsRule n) id m.0 (seats_one_more m.0) (next_thread_view m.0)
+      → Splits (KeepsRule P n) id m.0 (seats_one_more m.0) (next_thread_view m.0)
   split_allowed n id m d e =
-      subst (λ v. Splits (KeepsRule n) id v (seats_one_more v) (next_thread_view v)) (ap (λ (z : Sat T). z.0) (sym e))
+      subst (λ v. Splits (KeepsRule P n) id v (seats_one_more v) (next_thread_view v)) (ap (λ (z : Sat T). z.0) (sym e))
       (splits_here n id d)

@@ -92,9 +92,14 @@ module _ {T : Type 0} where
       (j ≡ suc h.thread) × (h ≡ thread_view h.thread) × ((line kernel_view h.thread).taken ≡ None)
   Knows kernel_view thread_view j Joined = Unit {0}
 
+  -- a condition on the values that were put for a thread: it holds once a value was put
+  abbrev pub AreAllowed : (ℕ → List T → Type 0) → ℕ → CellView T → Type 0
+  AreAllowed P t l = (l.put ≡ []) ⊎ P t l.put
+
   -- there are n cells, a kernel view, and a thread view for each thread. The words, the slots and all tokens
-  -- agree with them. A thread whose token isn't made yet took nothing.
-  pub record KeepsRule (n : ℕ) (s : State (Option T) (View T)) : Type 0 where
+  -- agree with them. A thread whose token isn't made yet took nothing. The values that were put for each
+  -- thread meet condition P.
+  pub record KeepsRule (P : ℕ → List T → Type 0) (n : ℕ) (s : State (Option T) (View T)) : Type 0 where
     pub kernel_view : KernelView T
     pub thread_view : ℕ → ThreadView T
     pub words : length s.words ≡ n * 8
@@ -107,4 +112,5 @@ module _ {T : Type 0} where
     pub each_cell : (t : ℕ) → t < n
         → Fits (slice_index s.words (word_of t)) (line kernel_view t) (thread_view t) (get_elem? s.homes t)
         × Settled (line kernel_view t).taken (thread_view t)
+    pub allowed : (t : ℕ) → AreAllowed P t (line kernel_view t)
     pub each_seat : (j : ℕ) (v : View T) → get_elem? s.views j ≡ some v → Knows kernel_view thread_view j v

@@ -104,11 +104,11 @@ module _ {T : Type 0} where
   EndPutTells st m r m' = (x : T) → m.1 ≡ (cell_of st.word, Some x) ∷ []
       → m' ≡ (Kernel (put_kernel_view (kernel_view_in m.0) (cell_of st.word) x), [])
 
-  -- take, by the thread's token: if it found 2, it holds the slot and the value in it; otherwise nothing
-  -- changes
-  abbrev pub TakeTells : Tells T
-  TakeTells st m r m' = (r ≡ 2
-      → (x : T)
+  -- take, by the thread's token: if it found 2, it holds the slot and the value in it, and the values that it
+  -- took so far and this one meet condition P; otherwise nothing changes
+  abbrev pub TakeTells : (ℕ → List T → Type 0) → Tells T
+  TakeTells P st m r m' = (r ≡ 2
+      → (x : T) × P (thread_view_in m.0).thread ((thread_view_in m.0).taken ++ x ∷ [])
       × (m' ≡ (Thread (taking_thread_view (thread_view_in m.0) x), (cell_of st.word, Some x) ∷ m.1)))
       × (¬ (r ≡ 2) → m' ≡ m)
 

@@ -10,15 +10,20 @@ use Rattle.qhandoff.specs.declared.cells.Cells.{Cells}
 use Rattle.atomic_table.specs.Seated.{TableId}
 use Rattle.qhandoff.specs.Steps.{kernel_view_in, thread_view_in}
 
-module _ {T : Type 0} where
+module _ {T O : Type 0} where
   -- the identity of these cells
-  abbrev pub cells_id : Cells T → TableId
+  abbrev pub cells_id : Cells T O → TableId
   cells_id c = c.table.shared.table_id
 
   -- the number of cells
-  abbrev pub count : Cells T → ℕ
+  abbrev pub count : Cells T O → ℕ
   count c = c.table.shared.table_id.slots
 
+  -- the origin with which the cells were made
+  abbrev pub origin_of : Cells T O → O
+  origin_of c = c.table.shared.key.origin.value
+
+module _ {T : Type 0} where
   -- the knowledge of the kernel's token
   abbrev pub kernel_view : KernelSeat T → KernelView T
   kernel_view s = kernel_view_in s.seat.me.0
@@ -34,14 +39,6 @@ module _ {T : Type 0} where
   -- the index of the cell that a thread's token empties
   abbrev pub thread_of : ThreadSeat T → ℕ
   thread_of s = s.thread
-
-  -- it is the kernel's token of these cells
-  abbrev pub IsKernelOf : Cells T → KernelSeat T → Type 0
-  IsKernelOf c s = kernel_id s ≡ cells_id c
-
-  -- it is a thread's token of these cells
-  abbrev pub IsThreadOf : Cells T → ThreadSeat T → Type 0
-  IsThreadOf c s = thread_id s ≡ cells_id c
 
   -- the completions that the thread took, in order
   abbrev pub taken : ThreadSeat T → List T
@@ -79,3 +76,12 @@ module _ {T : Type 0} where
   -- each thread index is below n
   abbrev pub AreBelow : ℕ → List (ℕ × T) → Type 0
   AreBelow n xs = (k : ℕ) (x : ℕ × T) → get_elem? xs k ≡ some x → x.0 < n
+
+module _ {T O : Type 0} where
+  -- it is the kernel's token of these cells
+  abbrev pub IsKernelOf : Cells T O → KernelSeat T → Type 0
+  IsKernelOf c s = kernel_id s ≡ cells_id c
+
+  -- it is a thread's token of these cells
+  abbrev pub IsThreadOf : Cells T O → ThreadSeat T → Type 0
+  IsThreadOf c s = thread_id s ≡ cells_id c

@@ -1,16 +1,19 @@
 //! The operations of the tokens. `atomic_table` makes every load, store and exchange of a word sequentially
 //! consistent. A comment at each says which weaker order would be enough.
 
-ghost use Rattle.std.specs.Prelude.{◌≡◌, ◌<◌, ◌++◌, [], ◌∷◌, true, false, MatchBool, MatchOption};
+ghost use Rattle.std.specs.Prelude.{◌≡◌, ◌<◌, ◌++◌, [], ◌∷◌, true, false, ℕ, List};
+ghost use Rattle.std.specs.Prelude.{IfSome, MatchBool, MatchOption};
 ghost use Rattle.std.specs.Bool.{OnTrue};
 ghost use Rattle.qhandoff.specs.Rule.{line};
 ghost use Rattle.qhandoff.specs.Steps.{opened_kernel_view, cancelled_kernel_view, put_kernel_view, IsBusy};
-ghost use Rattle.qhandoff.specs.Words.{count, kernel_view, taken, kernel_id, thread_id, thread_of};
+ghost use Rattle.qhandoff.specs.Words.{count, kernel_view, origin_of, taken, kernel_id, thread_id, thread_of};
 ghost use Rattle.qhandoff.specs.Words.{IsKernelOf, IsThreadOf};
 
 use crate::cells::{Cells, word_of};
+use crate::delivered::{Delivered, Told};
 use crate::seats::{KernelSeat, ThreadSeat};
 use crate::steps::{BeginPut, Cancel, EndPut, GiveBack, Open, Take};
+use std::marker::Brand;
 
 /// The cell is idle: it isn't opened, and has no completion.
 const IDLE: u64 = 0;
@@ -21,10 +24,12 @@ const OPENED: u64 = 1;
 /// The cell has a completion that was put and isn't taken yet.
 const FULL: u64 = 2;
 
-impl<T: Drop> KernelSeat<T> {
+impl<T> KernelSeat<T> {
     /// Opens the cell of a thread and returns `true`. Returns `false` and changes nothing if the cell isn't
     /// idle: it is opened already, or its completion isn't taken yet.
-    pub fn open(&mut self, cells: &Cells<T>, thread: usize) -> bool
+    pub fn open<O>(&mut self, cells: &Cells<T, O>, thread: usize) -> bool
+    where
+        T: Delivered<O>,
         requires cells { IsKernelOf cells.now self.old }
         requires thread { thread < count cells.now }
         ensures cells { kernel_id self.new ≡ kernel_id self.old }
@@ -44,7 +49,9 @@ impl<T: Drop> KernelSeat<T> {
     }
 
     /// Makes an opened cell idle again.
-    pub fn cancel(&mut self, cells: &Cells<T>, thread: usize)
+    pub fn cancel<O>(&mut self, cells: &Cells<T, O>, thread: usize)
+    where
+        T: Delivered<O>,
         requires cells { IsKernelOf cells.now self.old }
         requires thread { thread < count cells.now }
         requires opened { (line (kernel_view self.old) thread).opened ≡ true }
@@ -60,10 +67,14 @@ impl<T: Drop> KernelSeat<T> {
     }
 
     /// Puts a completion into an opened cell.
-    pub fn put(&mut self, cells: &Cells<T>, thread: usize, completion: T)
+    pub fn put<O>(&mut self, cells: &Cells<T, O>, thread: usize, completion: T)
+    where
+        T: Delivered<O>,
         requires cells { IsKernelOf cells.now self.old }
         requires thread { thread < count cells.now }
         requires opened { (line (kernel_view self.old) thread).opened ≡ true }
+        requires allowed { T.may_be_put (origin_of cells.now) thread
+            ((line (kernel_view self.old) thread).put ++ completion ∷ []) }
         ensures cells { kernel_id self.new ≡ kernel_id self.old }
         ensures kernel_view { kernel_view self.new ≡ put_kernel_view
             (kernel_view self.old) thread completion }
@@ -80,7 +91,7 @@ impl<T: Drop> KernelSeat<T> {
     }
 }
 
-impl<T: Drop> ThreadSeat<T> {
+impl<T> ThreadSeat<T> {
     /// Returns the index of the thread, which is the index of its cell.
     pub fn thread(&self) -> usize
         ensures number { result ≡ thread_of self.now }
@@ -91,19 +102,38 @@ impl<T: Drop> ThreadSeat<T> {
 
     /// Takes the completion out of the thread's cell, or returns `None` if there is none. Tries once and
     /// never waits.
-    pub fn poll(&mut self, cells: &Cells<T>) -> Option<T>
+    pub fn poll<O>(&mut self, cells: &Cells<T, O>) -> Option<T>
+    where
+        T: Delivered<O>,
         requires cells { IsThreadOf cells.now self.old }
         ensures cells { thread_id self.new ≡ thread_id self.old }
         ensures thread { thread_of self.new ≡ thread_of self.old }
         ensures taken { MatchOption result (taken self.new ≡ taken self.old)
             (λ x. taken self.new ≡ taken self.old ++ x ∷ []) }
+        ensures allowed { IfSome result
+            (λ x. T.may_be_put (origin_of cells.now) (thread_of self.old) (taken self.new)) }
+    {
+        self.poll_told::<O, Brand>(cells)
+    }
+
+    /// Does the same as `poll`, and is told the condition that W names.
+    fn poll_told<O, W: Told<T>>(&mut self, cells: &Cells<T, O>) -> Option<T>
+    where
+        T: Delivered<O>,
+        requires cells { IsThreadOf cells.now self.old }
+        requires told { (t : ℕ) (xs : List T) → T.may_be_put (origin_of cells.now) t xs → W.told t xs }
+        ensures cells { thread_id self.new ≡ thread_id self.old }
+        ensures thread { thread_of self.new ≡ thread_of self.old }
+        ensures taken { MatchOption result (taken self.new ≡ taken self.old)
+            (λ x. taken self.new ≡ taken self.old ++ x ∷ []) }
+        ensures told { IfSome result (λ x. W.told (thread_of self.old) (taken self.new)) }
     {
         let shared = &cells.table.shared;
         let thread = self.thread;
         let word = word_of(thread);
         // This is SeqCst. Acquire is enough: it synchronizes with the release of `EndPut`, so it sees the
         // whole completion.
-        if shared.load::<Take>(&mut self.seat, word) != FULL {
+        if shared.load::<Take<W>>(&mut self.seat, word) != FULL {
             return None;
         }
         // This isn't atomic: no other token touches the slot of a full cell, so this is a plain read and a

@@ -10,7 +10,8 @@ ghost use Rattle.qhandoff.specs.Steps.{kernel_view_in, joined_at};
 ghost use Rattle.qhandoff.specs.Words.{cells_id, count, kernel_view, taken, took, one, tagged, left_for};
 ghost use Rattle.qhandoff.specs.Words.{thread_id, thread_of, Rises, AreBelow, IsKernelOf, IsRow};
 
-use crate::cells::Cells;
+use crate::cells::{Cells, CellsKey};
+use crate::delivered::Delivered;
 use crate::seats::{KernelSeat, ThreadSeat};
 use crate::steps::{HandOff, JoinOne};
 use crate::view::View;
@@ -18,12 +19,12 @@ use atomic_table::{Closed, Seat, Shared};
 use std::alloc::Global;
 
 /// Joins one thread's token, so that the kernel's token knows the completions that this thread took.
-fn join_one<T: Drop>(
-    shared: &Shared<Option<T>, View<T>, usize, HandOff>,
+fn join_one<T: Delivered<O>, O>(
+    shared: &Shared<Option<T>, View<T>, CellsKey<O>, HandOff>,
     seat: &mut Seat<Option<T>, View<T>>,
     other: ThreadSeat<T>,
 )
-    requires sized { (shared.now.key ≡ shared.now.table_id.slots)
+    requires sized { (shared.now.key.threads ≡ shared.now.table_id.slots)
         × (shared.now.table_id.words ≡ shared.now.table_id.slots * 8) }
     requires seat { (seat.old.table_id ≡ shared.now.table_id)
         × (seat.old.me ≡ (Kernel (kernel_view_in seat.old.me.0), [])) }
@@ -42,12 +43,12 @@ fn join_one<T: Drop>(
 }
 
 /// Joins the tokens of all threads, beginning with the last.
-fn join_all<T: Drop>(
-    shared: &Shared<Option<T>, View<T>, usize, HandOff>,
+fn join_all<T: Delivered<O>, O>(
+    shared: &Shared<Option<T>, View<T>, CellsKey<O>, HandOff>,
     seat: &mut Seat<Option<T>, View<T>>,
     mut threads: Vec<ThreadSeat<T>>,
 )
-    requires sized { (shared.now.key ≡ shared.now.table_id.slots)
+    requires sized { (shared.now.key.threads ≡ shared.now.table_id.slots)
         × (shared.now.table_id.words ≡ shared.now.table_id.slots * 8) }
     requires seat { (seat.old.table_id ≡ shared.now.table_id)
         × (seat.old.me ≡ (Kernel (kernel_view_in seat.old.me.0), []))
@@ -97,7 +98,7 @@ fn collect<T: Drop>(
     room
 }
 
-impl<T: Drop> Cells<T> {
+impl<T: Delivered<O>, O> Cells<T, O> {
     /// Returns the number of cells, one for each thread.
     pub fn threads(&self) -> usize
         ensures { result ≡ count self.now }

@@ -3,8 +3,10 @@
 
 ghost use Rattle.qhandoff.specs.HandoffLaws.{TakenIsABeginning};
 
+use crate::delivered::Delivered;
+
 /// At any time, the completions that a thread took are the first completions that were put for it. They are
 /// all of them, or all except the last.
-pub fn taken_is_a_beginning<T>()
-    ensures { TakenIsABeginning T }
+pub fn taken_is_a_beginning<T: Delivered<O>, O>()
+    ensures { (origin : O) → TakenIsABeginning (T.may_be_put origin) }
 {}

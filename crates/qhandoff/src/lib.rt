@@ -5,6 +5,7 @@
 mod calls;
 pub mod cells;
 mod closing;
+pub mod delivered;
 pub mod handoff_laws;
 mod making;
 pub mod seats;

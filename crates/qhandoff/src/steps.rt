@@ -6,16 +6,19 @@ ghost use Rattle.qhandoff.specs.Steps.{first_view, seats_one_more, next_thread_v
 ghost use Rattle.qhandoff.specs.Steps.{CancelTells, BeginPutTells, EndPutTells, TakeTells, GiveBackTells};
 ghost use Rattle.qhandoff.specs.declared.view.View.TheVariants.{Joined};
 
+use crate::cells::CellsKey;
+use crate::delivered::{Delivered, Told};
 use crate::view::View;
 use atomic_table::{Join, Play, Split, TableRule};
+use std::marker::PhantomData;
 
 /// The rule that holds between any two steps.
 pub struct HandOff;
 
-impl<T> TableRule<Option<T>, View<T>, usize> for HandOff {
-    ghost holds = { KeepsRule };
+impl<T: Delivered<O>, O> TableRule<Option<T>, View<T>, CellsKey<O>> for HandOff {
+    ghost holds = { λ key. KeepsRule (T.may_be_put key.origin.value) key.threads };
 
-    ghost first = { first_view };
+    ghost first = { λ key. first_view key.threads };
 }
 
 /// Splits a thread's token off the kernel's token, as the cells are made.
@@ -66,10 +69,13 @@ impl<T> Play<Option<T>, View<T>> for EndPut {
 }
 
 /// A thread's token begins to take the completion out of its full cell, and holds its slot until `GiveBack`.
-pub struct Take;
+/// W names the condition that it is told.
+pub struct Take<W> {
+    of: PhantomData<W>,
+}
 
-impl<T> Play<Option<T>, View<T>> for Take {
-    ghost then = { TakeTells };
+impl<T, W: Told<T>> Play<Option<T>, View<T>> for Take<W> {
+    ghost then = { TakeTells W.told };
 }
 
 /// A thread's token has taken the completion, and releases the slot.

@@ -6,8 +6,7 @@ pub use Rattle.qhandoff.proofs.Changes.{line_else, line_here, there}
 pub use Rattle.qhandoff.specs.Rule.{idle_line, line}
 pub use Rattle.qhandoff.specs.Steps.{IsBusy, cancelled_kernel_view, opened_kernel_view, put_kernel_view}
 pub use Rattle.qhandoff.specs.Steps.{seated_kernel_view}
-pub use Rattle.qhandoff.specs.Words.{AreBelow, IsRow, cells_id, count, kernel_view, kernel_id, left_for, one, taken}
-pub use Rattle.qhandoff.specs.Words.{thread_id, thread_of, took}
+pub use Rattle.qhandoff.specs.Words.{AreBelow, IsRow, cells_id, count, kernel_id, left_for, one, thread_id, thread_of}
 pub use Rattle.qhandoff.specs.declared.seats.ThreadSeat.{ThreadSeat}
 pub use Rattle.qhandoff.specs.declared.view.KernelView.{KernelView}
 pub use Rattle.qhandoff.specs.declared.view.CellView.{CellView}
@@ -20,6 +19,7 @@ pub use Rattle.qmodel.specs.declared.call.Call.{Call}
 pub use Rattle.qmodel.specs.declared.call.Completion.{Completion}
 pub use Rattle.qshared.specs.History.{Extends}
 pub use Rattle.qshared.specs.declared.asking.KernelCalls.{KernelCalls}
+pub use Rattle.qshared.specs.declared.delivery.Delivery.{Delivery}
 pub use Rattle.qrules.proofs.Traces.Rosters.{Rises, all_at, among_member, known, rises}
 pub use Rattle.qrules.proofs.Traces.TraceLaws.Blocked.{GoesToBlocked, blocked_unless_ended, caller_gets_its_own}
 pub use Rattle.qrules.proofs.Traces.TraceLaws.Blocked.{completions_are_apart, completions_go_to_blocked, may_end}
@@ -32,11 +32,13 @@ pub use Rattle.qrules.specs.Trace.{AreApart, Event, Trace, followed_by, gets, th
 pub use Rattle.qshared.specs.Answered.{Answered, IsMet}
 pub use Rattle.qshared.specs.Asking.{AreCallsOf, IsSince, WaitedBefore, asked_in, calls_of, heard_in}
 pub use Rattle.qshared.specs.Counting.{gives, is_call, pends}
+pub use Rattle.qshared.specs.Delivered.{Arrives, IsAwaited, IsDelivered, completions_in, kernel_view, newest_call}
+pub use Rattle.qshared.specs.Delivered.{origin_of, taken, took, view_of}
 pub use Rattle.qshared.specs.Due.{AreDue, AreKnown, AreLater, HasWaited, IsOwed, at_once, collected, completions_due}
 pub use Rattle.qshared.specs.Due.{ends_open, in_turn, later_due, later_of, of_thread, place, waits}
 pub use Rattle.qshared.specs.Past.{AreSeen, RiseByThread, completes, is_down}
 pub use Rattle.qshared.specs.Performing.{Admits, IsEvent, IsFree, IsReason, IsServed, Performs, Refuses, outcome}
-pub use Rattle.qshared.specs.Private.Putting.{Handed, MayPut}
+pub use Rattle.qshared.specs.Private.Putting.{Handed, MayArrive, MayPut}
 pub use Rattle.qshared.specs.Private.Recorded.{Copied, HasRoomFor, HasRooms, IsKept, MayCopy}
 pub use Rattle.qshared.specs.UnderLock.{Agrees, IsUnderLock, UnderLock}
 pub use Rattle.qshared.specs.declared.port.Called.{Called}

@@ -7,13 +7,14 @@ use Rattle.qshared.proofs.Common.{completions_are_apart, is_blocked, Answers, An
 use Rattle.qshared.proofs.Common.{opened_kernel_view, cancelled_kernel_view, IsBusy, one, HasWaited, at_once, later_due}
 use Rattle.qshared.proofs.Common.{of_thread, place, completes, is_down, IsUnderLock, Admits, IsFree, IsServed}
 use Rattle.qshared.proofs.Common.{IsReason, IsEvent, Performs, Refuses, outcome, MayPut, Handed, matches_down}
+use Rattle.qshared.proofs.Common.{MayArrive}
 use Rattle.qrules.proofs.Words.Facts.{threads_of}
 use Rattle.qmodel.specs.Trace.{Trace}
 use Rattle.qrules.proofs.Traces.TraceLaws.Completion.{completions_name_own_calls}
 use Rattle.qrules.specs.Lawful.{facts_of}
 use Rattle.qshared.proofs.Places.{place_among, place_below}
 use Rattle.qshared.proofs.Turns.{gets_of, none_later, not_nil, of_one, own_number, waited_due}
-use Rattle.qshared.proofs.Telling.{undone, is_free, lawful_after, all_may_put, told_after}
+use Rattle.qshared.proofs.Telling.{undone, is_free, lawful_after, all_arrive, all_may_put, told_after}
 
 module _ (roster : List Member) (slots : ℕ) (kernel : State) (d : KernelView Completion) (threads : List ℕ)
     (past : Trace)
@@ -83,6 +84,13 @@ module _ (roster : List Member) (slots : ℕ) (kernel : State) (d : KernelView C
           pub may_put : AllByRecursion (MayPut threads (opened_kernel_view d i)) X
           may_put = subst (λ ts. AllByRecursion (MayPut ts (opened_kernel_view d i)) X) (sym h.threads_are)
               (all_may_put roster kernel d past t i h.told at near free c X answers h.rises)
+
+          pub may_arrive : AllByRecursion
+              (MayArrive roster threads t (with_event t c X past) (opened_kernel_view d i)) X
+          may_arrive =
+              subst
+              (λ ts. AllByRecursion (MayArrive roster ts t (with_event t c X past) (opened_kernel_view d i)) X)
+              (sym h.threads_are) (all_arrive roster kernel d past t i h.told at near free c X answers h.rises)
 
           pub held_after : (d' : KernelView Completion) → Handed threads t X (opened_kernel_view d i) d'
               → IsUnderLock roster slots new d' threads (with_event t c X past)

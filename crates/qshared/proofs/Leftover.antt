@@ -3,7 +3,8 @@ use Rattle.qshared.proofs.Common.{◌≡◌, ℕ, zero, suc, ◌+◌, ◌<◌, �
 use Rattle.qshared.proofs.Common.{sym, subst, ◌∙◌, cond, Bool, true, false, eqb, inl, inr, arith, Some, AllByRecursion}
 use Rattle.qshared.proofs.Common.{cases_Bool, eqb-true, eqb-false, eq-eqb, ne_eqb, true≢false, same_Some, some}
 use Rattle.qshared.proofs.Common.{some-injective, some-ne-none, get_elem?, all_more, Completion, Rises, all_at}
-use Rattle.qshared.proofs.Common.{among_member, AreBelow, left_for, took, Member, ThreadSeat, Call, Extends, IsSince}
+use Rattle.qshared.proofs.Common.{among_member, AreBelow, left_for, took, Member, ThreadSeat, Delivery, Call, Extends}
+use Rattle.qshared.proofs.Common.{IsSince}
 use Rattle.qshared.proofs.Common.{calls_of, AreDue, AreKnown, AreLater, at_once, collected, completions_due, in_turn}
 use Rattle.qshared.proofs.Common.{later_due, later_of, of_thread, place, at_map, RiseByThread}
 use Rattle.qmodel.specs.Trace.{Trace}
@@ -197,7 +198,7 @@ port_due past seen last asked u t took left pending blocked same extends since n
     (subst (λ os. AreLater blocked os (later_due past t)) once owed) told
     ∙ ap (λ os. in_turn os (later_due past t)) (sym once) ∙ whole
 
-module _ {P : Type 0} (seat : P → ThreadSeat Completion) (mine : P → List Completion) (roster : List Member)
+module _ {P : Type 0} (seat : P → ThreadSeat Delivery) (mine : P → List Completion) (roster : List Member)
     (past : Trace) (left : List Completion) where
   there : (ports : List P) (i : ℕ) → i < length ports → (p : P) × (get_elem? ports i ≡ some p)
   there [] i below = absurd (omega arith)

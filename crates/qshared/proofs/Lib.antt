@@ -2,6 +2,7 @@ pub mod Beginning
 pub mod Collecting
 pub mod Common
 pub mod Copying
+pub mod Deliveries
 pub mod Keeps
 pub mod KeptLog
 pub mod Leftover
@@ -15,4 +16,5 @@ pub mod Rows
 pub mod Seeing
 pub mod Telling
 pub mod Turns
+pub mod Waiting
 pub mod Walks

@@ -4,7 +4,8 @@ use Rattle.qshared.proofs.Common.{false, eqb, inl, inr, append-nil, append_assoc
 use Rattle.qshared.proofs.Common.{AllByRecursion, cases_Bool, eqb-true, eqb-false, eq-eqb, ne_eqb, true≢false}
 use Rattle.qshared.proofs.Common.{list_any-append, same_Some, Completion, KernelView, CellView, line}
 use Rattle.qshared.proofs.Common.{cancelled_kernel_view, put_kernel_view, one, line_else, line_here, gets, AreApart}
-use Rattle.qshared.proofs.Common.{later_of, place, of_thread, MayPut, Handed}
+use Rattle.qshared.proofs.Common.{later_of, place, of_thread, IsDelivered, MayArrive, MayPut, Handed, Member}
+use Rattle.qmodel.specs.Trace.{Trace}
 use Rattle.std.proofs.lemmas.List.Elements.{filter-append}
 use Rattle.qshared.proofs.Places.{place_same}
 use Rattle.qshared.proofs.Turns.{of_none}
@@ -211,6 +212,19 @@ module _ (ts : List ℕ) (X : List Completion) (d d' : KernelView Completion) (c
   handing_next apart may =
       may_still ts caller h.done x d d' h.handed (fresh apart)
       (all_middle (MayPut ts d) left h.done x (subst (AllByRecursion (MayPut ts d)) (sym split) may))
+
+  -- the next completion is delivered, if it isn't the caller's
+  pub handing_arrives : (roster : List Member) (made : Trace) → AreApart X
+      → AllByRecursion (MayArrive roster ts caller made d) X → MayArrive roster ts caller made d' x
+  handing_arrives roster made apart may = λ foreign i is.
+      let none : later_of caller x.thread h.done ≡ [] =
+      ap (λ zs. cond (eqb caller x.thread) [] zs) (of_none x.thread h.done (fresh apart))
+      ∙ cond_nil (eqb caller x.thread) in
+      let same : (line d' i).put ≡ (line d i).put = h.handed.put x.thread i is
+      ∙ ap (λ ys. (line d i).put ++ ys) none ∙ append-nil (line d i).put in
+      subst (λ ys. IsDelivered roster i (ys ++ x ∷ []) x made) (sym same)
+      (all_middle (MayArrive roster ts caller made d) left h.done x
+      (subst (AllByRecursion (MayArrive roster ts caller made d)) (sym split) may) foreign i is)
 
   module _ (i : ℕ) (near : i < length d'.lines) (apart : AreApart X) where
     -- one more completion is put

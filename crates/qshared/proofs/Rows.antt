@@ -1,7 +1,8 @@
 -- The tokens of a list of ports, and the ports of a list of tokens.
 use Rattle.qshared.proofs.Common.{◌≡◌, ℕ, zero, suc, List, [], ◌∷◌, ◌++◌, map, sym, refl, ap, ◌∙◌, subst, some}
-use Rattle.qshared.proofs.Common.{some-injective, some-ne-none, get_elem?, at_map, ThreadSeat, Completion, IsRow}
-use Rattle.qshared.proofs.Common.{thread_id, thread_of, taken, took}
+use Rattle.qshared.proofs.Common.{some-injective, some-ne-none, get_elem?, at_map, ThreadSeat, Delivery, IsRow}
+use Rattle.qshared.proofs.Common.{thread_id, thread_of, completions_in, taken}
+use Rattle.qhandoff.specs.Words as cells
 use Rattle.atomic_table.specs.Seated.{TableId}
 
 module _ {P : Type 0} where
@@ -9,24 +10,24 @@ module _ {P : Type 0} where
   map_same [] = refl
   map_same (x ∷ xs) = ap (λ ys. x ∷ ys) (map_same xs)
 
-  origin : {A : Type 0} (f : P → A) (xs : List P) (k : ℕ) (a : A) → get_elem? (map f xs) k ≡ some a
+  pub origin : {A : Type 0} (f : P → A) (xs : List P) (k : ℕ) (a : A) → get_elem? (map f xs) k ≡ some a
       → (p : P) × (get_elem? xs k ≡ some p) × (f p ≡ a)
   origin f [] k a e = absurd (some-ne-none a (sym e))
   origin f (x ∷ xs) zero a e = (x, refl, some-injective (f x) a e)
   origin f (x ∷ xs) (suc k) a e = origin f xs k a e
 
-  pub seats_row : (f : P → ThreadSeat Completion) (z : TableId) (xs : List P) → ((p : P) → thread_id (f p) ≡ z)
+  pub seats_row : (f : P → ThreadSeat Delivery) (z : TableId) (xs : List P) → ((p : P) → thread_id (f p) ≡ z)
       → ((k : ℕ) (p : P) → get_elem? xs k ≡ some p → thread_of (f p) ≡ k) → IsRow z (map f xs)
   seats_row f z xs of at k s e = let o = origin f xs k s e in
       subst (λ v. (thread_id v ≡ z) × (thread_of v ≡ k)) o.2 (of o.0, at k o.0 o.1)
 
   -- the ports of new tokens have their indices, and have taken nothing
-  pub ports_fresh : (f : P → ThreadSeat Completion) (z : TableId) (seats : List (ThreadSeat Completion)) (xs : List P)
-      → map f xs ≡ seats → IsRow z seats → ((k : ℕ) → took (get_elem? seats k) ≡ [])
+  pub ports_fresh : (f : P → ThreadSeat Delivery) (z : TableId) (seats : List (ThreadSeat Delivery)) (xs : List P)
+      → map f xs ≡ seats → IsRow z seats → ((k : ℕ) → cells.took (get_elem? seats k) ≡ [])
       → (k : ℕ) (p : P) → get_elem? xs k ≡ some p → (thread_of (f p) ≡ k) × (taken (f p) ≡ [])
   ports_fresh f z seats xs e row none_took k p at = let there : get_elem? seats k ≡ some (f p) =
       ap (λ ys. get_elem? ys k) (sym e) ∙ at_map f xs k p at in
-      ((row k (f p) there).1, ap took (sym there) ∙ none_took k)
+      ((row k (f p) there).1, ap completions_in (ap cells.took (sym there) ∙ none_took k))
 
   -- a property of each element, and of one more
   pub each_pushed : (Q : P → Type 0) (xs : List P) (x : P) → ((k : ℕ) (p : P) → get_elem? xs k ≡ some p → Q p) → Q x

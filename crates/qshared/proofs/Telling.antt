@@ -8,12 +8,13 @@ use Rattle.qshared.proofs.Common.{with_event, among_member, known, is_blocked, A
 use Rattle.qshared.proofs.Common.{CellView, idle_line, line, opened_kernel_view, cancelled_kernel_view, line_else}
 use Rattle.qshared.proofs.Common.{line_here, AreLater, IsOwed, at_once, completions_due, in_turn, later_due, later_of}
 use Rattle.qshared.proofs.Common.{of_thread, place, Agrees, IsFree, MayPut, Handed, blocked_same, properties_of}
-use Rattle.qshared.proofs.Common.{matches_down}
+use Rattle.qshared.proofs.Common.{append-nil, ends_open, matches_down, MayArrive}
 use Rattle.qrules.proofs.Words.Facts.{threads_of}
 use Rattle.qmodel.specs.Trace.{Event, Trace}
 use Rattle.qrules.specs.Lawful.{IsLawful, facts_of}
 use Rattle.qshared.proofs.Places.{place_among, place_same, place_some}
-use Rattle.qshared.proofs.Turns.{of_none, of_one, owed_other, owed_own}
+use Rattle.qshared.proofs.Turns.{alone, gets_of, of_none, of_one, owed_other, owed_own}
+use Rattle.qshared.proofs.Waiting.{CompletesNewest, complete_newest}
 
 -- ---- an opened cell
 
@@ -168,6 +169,47 @@ module _ (roster : List Member) (kernel : State) (d : KernelView Completion) (pa
             ]) in
             record { later = subst (owed_later u) (sym other) r.0; whole = subst (owed_whole u) (sym other) r.1 }
       ]
+
+      arrive : (x : Completion) → of_thread x.thread X ≡ x ∷ [] → CompletesNewest past t x
+          → MayArrive roster (threads_of roster) t (with_event t c X past) (opened_kernel_view d i) x
+      arrive x only newest foreign j is =
+          let u : ℕ = x.thread in
+          let after : Trace = with_event t c X past in
+          let apart : eqb t u ≡ false = ne_eqb t u (λ s. eqb-false u t foreign (sym s)) in
+          let got : gets X u ≡ true = gets_of u X x [] only in
+          let waiting : may_end roster past t u ≡ is_blocked (facts_of roster past) u =
+          ap (λ b. b || is_some (open_call roster past u)) foreign ∙ sym (blocked_same roster past told.lawful u) in
+          let blocked : is_blocked (facts_of roster past) u ≡ true = sym waiting
+          ∙ may_of X (completions_go_to_blocked roster past e rises lawful_after) u got in
+          let idle : is_blocked (facts_of roster after) u ≡ false = still_blocked u ∙ rw got refl in
+          let waited : ends_open (at_once past u) ≡ true = (told.owed u j is).later.1 blocked in
+          let put : later_due past u ≡ (line (opened_kernel_view d i) j).put =
+          sym (open_puts d i j near ∙ (told.tied u j is).0) in
+          let due : later_due after u ≡ (line (opened_kernel_view d i) j).put ++ x ∷ [] =
+          rw apart (ap (λ ys. later_due past u ++ ys) only) ∙ ap (λ ys. ys ++ x ∷ []) put in
+          record {
+            lawful = lawful_after;
+            properties = properties_of roster after lawful_after rises;
+            thread = is;
+            ends = (apart, only);
+            call = newest foreign waited ∙ rw apart refl;
+            due = sym due;
+            later =
+                subst (λ ys. AreLater false (at_once after u) ys) due
+                (subst (λ b. AreLater b (at_once after u) (later_due after u)) idle (owed_after u j is).later);
+            waited = rw apart (subst (λ os. ends_open os ≡ true) (sym (append-nil (at_once past u))) waited);
+          }
+
+      -- each completion that isn't the caller's is delivered to its thread
+      pub all_arrive : AllByRecursion
+          (MayArrive roster (threads_of roster) t (with_event t c X past) (opened_kernel_view d i)) X
+      all_arrive = each X (alone X one_each) (complete_newest roster past e lawful_after) where
+        each : (Y : List Completion) → AllByRecursion (λ x. of_thread x.thread X ≡ x ∷ []) Y
+            → AllByRecursion (CompletesNewest past t) Y
+            → AllByRecursion
+            (MayArrive roster (threads_of roster) t (with_event t c X past) (opened_kernel_view d i)) Y
+        each [] a b = tt
+        each (x ∷ Y) a b = (arrive x a.0 b.0, each Y a.1 b.1)
 
       module _ (new : State) (d' : KernelView Completion) (matches : MatchesAt roster new (with_event t c X past))
           (handed : Handed (threads_of roster) t X (opened_kernel_view d i) d') where

@@ -2,19 +2,20 @@
 use Rattle.qshared.proofs.Common.{◌≡◌, ℕ, zero, suc, ◌+◌, ◌-◌, ◌<◌, ◌≤◌, ◌⊎◌, List, [], ◌∷◌, ◌++◌, length}
 use Rattle.qshared.proofs.Common.{length-append, take, drop, refl, ap, sym, subst, ◌∙◌, cond, Bool, true, false, eqb}
 use Rattle.qshared.proofs.Common.{inl, inr, arith, append-nil, append_assoc, None, Option, Some, is_none, MatchOption}
-use Rattle.qshared.proofs.Common.{AllByRecursion, list_any, take-append-drop, drop-append_seam, cases_Bool, eqb-true}
+use Rattle.qshared.proofs.Common.{AllByRecursion, all_more, list_any, take-append-drop, drop-append_seam}
+use Rattle.qshared.proofs.Common.{cases_Bool, eqb-true}
 use Rattle.qshared.proofs.Common.{eq-eqb, true≢false, Completion, gets, AreApart, Extends, Call, IsSince, WaitedBefore}
 use Rattle.qshared.proofs.Common.{calls_of, HasWaited, of_thread, at_once, ends_open, in_turn, waits, AreLater}
 use Rattle.qmodel.specs.Trace.{Trace}
 
 -- the head and the tail of equal lists
-heads : {A : Type 0} (x y : A) (xs ys : List A) → x ∷ xs ≡ y ∷ ys → x ≡ y
+pub heads : {A : Type 0} (x y : A) (xs ys : List A) → x ∷ xs ≡ y ∷ ys → x ≡ y
 heads x y xs ys e = ap (λ l. first x l) e where
   first : {A : Type 0} → A → List A → A
   first d [] = d
   first d (z ∷ zs) = z
 
-tails : {A : Type 0} (x y : A) (xs ys : List A) → x ∷ xs ≡ y ∷ ys → xs ≡ ys
+pub tails : {A : Type 0} (x y : A) (xs ys : List A) → x ∷ xs ≡ y ∷ ys → xs ≡ ys
 tails x y xs ys e = ap rest e where
   rest : {A : Type 0} → List A → List A
   rest [] = []
@@ -131,6 +132,19 @@ gets_of t X x xs is = elim (cases_Bool (gets X t)) [
   | inl e ↦ e
   | inr e ↦ absurd (not_nil x xs (sym is ∙ of_none t X e))
 ]
+
+-- each of these completions is the only one for its thread
+pub alone : (X : List Completion) → AreApart X → AllByRecursion (λ x. of_thread x.thread X ≡ x ∷ []) X
+alone [] apart = tt
+alone (x ∷ X) apart = (
+  rw (eq-eqb x.thread x.thread refl) (ap (λ zs. x ∷ zs) (of_none x.thread X apart.0)),
+  all_more _ _ X (alone X apart.1) (λ y only.
+      elim (cases_Bool (eqb x.thread y.thread)) [
+        | inl e ↦ absurd (true≢false (sym (gets_of y.thread X y [] only)
+            ∙ ap (gets X) (sym (eqb-true x.thread y.thread e)) ∙ apart.0))
+        | inr e ↦ rw e only
+      ]),
+)
 
 none_gets : (t : ℕ) (Y : List Completion) → gets Y t ≡ true → of_thread t Y ≡ [] → ⊥
 none_gets t [] some none = true≢false (sym some)

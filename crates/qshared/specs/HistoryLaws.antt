@@ -13,17 +13,19 @@ use Rattle.qhandoff.specs.declared.view.ThreadView.{ThreadView}
 use Rattle.qhandoff.specs.declared.view.View.{View}
 use Rattle.qhandoff.specs.declared.view.View.TheVariants.{Kernel, Thread}
 use Rattle.qhandoff.specs.Rule.{KeepsRule}
+use Rattle.qshared.specs.Delivered.{completions_in, view_of, ArePut}
 use Rattle.qshared.specs.Due.{IsTied, later_due, place}
+use Rattle.qshared.specs.declared.delivery.Delivery.{Delivery}
 
 -- between any two steps, the completions that a thread took out of its cell are a prefix of its later
 -- completions in a history to which the cells are tied. At most one completion is missing.
 abbrev pub TakenIsDue : Type 0
-TakenIsDue = (n : ℕ) (s : State (Option Completion) (View Completion)) (d : KernelView Completion)
-    (h : ThreadView Completion) (i j t : ℕ) (roster : List Member) (past : Trace)
-    → KeepsRule n s → get_elem? s.views i ≡ some (Kernel d) → get_elem? s.views j ≡ some (Thread h)
-    → h.thread < n
-    → IsTied roster d past → place (threads_of roster) t ≡ Some h.thread
-    → (rest : List Completion) × (later_due past t ≡ h.taken ++ rest) × (length rest ≤ 1)
+TakenIsDue = (history n : ℕ) (s : State (Option Delivery) (View Delivery)) (d : KernelView Delivery)
+    (h : ThreadView Delivery) (i j t : ℕ) (roster : List Member) (past : Trace)
+    → KeepsRule (ArePut roster history) n s → get_elem? s.views i ≡ some (Kernel d)
+    → get_elem? s.views j ≡ some (Thread h) → h.thread < n
+    → IsTied roster (view_of d) past → place (threads_of roster) t ≡ Some h.thread
+    → (rest : List Completion) × (later_due past t ≡ completions_in h.taken ++ rest) × (length rest ≤ 1)
 
 -- a port that saw the history after an event, or learned of it from another port, meets only histories that
 -- have this event at the same number

@@ -1,6 +1,7 @@
 pub mod Answered
 pub mod Asking
 pub mod Counting
+pub mod Delivered
 pub mod Due
 pub mod Halves
 pub mod History

@@ -3,6 +3,7 @@
 ghost use Rattle.std.specs.Prelude.{◌≡◌, ◌≤◌, [], vec_capacity};
 
 use crate::asking::PortCalls;
+use crate::delivery::Delivery;
 use crate::tie::Tie;
 use qhandoff::seats::ThreadSeat;
 use qmodel::call::Completion;
@@ -13,7 +14,7 @@ use std::marker::PhantomData;
 /// and stays empty until `finish`.
 #[derive(Drop)]
 pub(crate) struct CloseBuffers<K: Tie> {
-    pub(crate) seats: Vec<ThreadSeat<Completion>>,
+    pub(crate) seats: Vec<ThreadSeat<Delivery>>,
     pub(crate) calls: Vec<u64>,
     pub(crate) left: Vec<Completion>,
     pub(crate) asked: Vec<PortCalls>,

@@ -1,16 +1,21 @@
 //! Puts the completions of an event into the cells.
 
-ghost use Rattle.std.specs.Prelude.{◌≡◌, ◌<◌, ◌≤◌, [], length, Some};
+ghost use Rattle.std.specs.Prelude.{◌≡◌, ◌<◌, ◌≤◌, ◌++◌, ℕ, [], ◌∷◌, length, Some};
 ghost use Rattle.std.specs.List.{AllByRecursion};
+ghost use Rattle.qhandoff.specs.Rule.{line};
 ghost use Rattle.qhandoff.specs.Steps.{put_kernel_view};
-ghost use Rattle.qhandoff.specs.Words.{cells_id, kernel_id, kernel_view, one};
+ghost use Rattle.qhandoff.specs.Words.{cells_id, kernel_id, one};
 ghost use Rattle.qrules.specs.Trace.{AreApart};
 ghost use Rattle.qrules.specs.Facts.{threads_of};
 ghost use Rattle.qkernel_state.specs.Contents.{members_of};
+ghost use Rattle.qshared.specs.Delivered.{kernel_view, origin_of, IsDelivered};
 ghost use Rattle.qshared.specs.Due.{of_thread, place};
-ghost use Rattle.qshared.specs.Private.Putting.{MayPut, Handed};
+ghost use Rattle.qshared.specs.Private.Putting.{MayArrive, MayPut, Handed};
 
 use crate::call_scratch::CallScratch;
+use crate::cell_steps::{cancel, put};
+use crate::delivery::{Delivery, Origin};
+use crate::history::Prefix;
 use qbase::ids::ThreadNo;
 use qhandoff::cells::Cells;
 use qhandoff::seats::KernelSeat;
@@ -27,14 +32,20 @@ pub(crate) fn place_of(kernel: &Kernel, thread: ThreadNo) -> Option<usize>
 
 /// Puts one completion into its thread's cell, and returns the cell's index.
 fn hand_one(
-    seat: &mut KernelSeat<Completion>,
-    cells: &Cells<Completion>,
+    seat: &mut KernelSeat<Delivery>,
+    cells: &Cells<Delivery, Origin>,
     kernel: &Kernel,
     completion: Completion,
+    seen: &Prefix,
 ) -> usize
     requires cells { kernel_id seat.old ≡ cells_id cells.now }
     requires sized { length (threads_of (members_of kernel.now.threads)) ≡ (cells_id cells.now).slots }
     requires may { MayPut (threads_of (members_of kernel.now.threads)) (kernel_view seat.old) completion }
+    requires seen { seen.now.name ≡ (origin_of cells.now).seen.name }
+    requires delivered { (i : ℕ)
+        → place (threads_of (members_of kernel.now.threads)) completion.thread ≡ Some i
+        → IsDelivered (origin_of cells.now).roster.value i
+        ((line (kernel_view seat.old) i).put ++ completion ∷ []) completion seen.now.trace }
     ensures cells { kernel_id seat.new ≡ kernel_id seat.old }
     ensures place { result < (cells_id cells.entry.now).slots }
     ensures put { (place (threads_of (members_of kernel.now.threads)) completion.thread ≡ Some result)
@@ -43,7 +54,7 @@ fn hand_one(
     let Some(place) = place_of(kernel, completion.thread) else {
         unreachable!()
     };
-    seat.put(cells, place, completion);
+    put(seat, cells, place, completion, seen);
     place
 }
 
@@ -55,13 +66,15 @@ fn bit_of(place: usize) -> u64
 }
 
 /// Puts the completions of an event into their threads' cells, and sets the bit of every cell that is filled.
-/// If one of them is for `scratch`'s own thread, it isn't put but returned, and the thread's cell is closed.
+/// `seen` is the history up to this event. If one of them is for `scratch`'s own thread, it isn't put but
+/// returned, and the thread's cell is closed.
 /// No two completions are for the same thread, so their order doesn't matter: the last is put first.
 pub(crate) fn hand_out(
-    seat: &mut KernelSeat<Completion>,
-    cells: &Cells<Completion>,
+    seat: &mut KernelSeat<Delivery>,
+    cells: &Cells<Delivery, Origin>,
     kernel: &Kernel,
     scratch: &mut CallScratch,
+    seen: &Prefix,
 ) -> Option<Completion>
     requires few { (cells_id cells.now).slots ≤ 64 }
     requires cells { kernel_id seat.old ≡ cells_id cells.now }
@@ -72,6 +85,10 @@ pub(crate) fn hand_out(
     requires may { AllByRecursion
         (MayPut (threads_of (members_of kernel.now.threads)) (kernel_view seat.old))
         scratch.old.completions.value.items }
+    requires seen { seen.now.name ≡ (origin_of cells.now).seen.name }
+    requires arrive { AllByRecursion (MayArrive (origin_of cells.now).roster.value
+        (threads_of (members_of kernel.now.threads)) scratch.old.seat.thread seen.now.trace
+        (kernel_view seat.old)) scratch.old.completions.value.items }
     ensures cells { kernel_id seat.new ≡ kernel_id seat.old }
     ensures own { of_thread scratch.old.seat.thread scratch.old.completions.value.items ≡ one result }
     ensures handed { Handed (threads_of (members_of kernel.now.threads)) scratch.old.seat.thread
@@ -85,10 +102,10 @@ pub(crate) fn hand_out(
     let mut own = None;
     while let Some(completion) = completions.pop() {
         if completion.thread == thread {
-            seat.cancel(cells, own_place);
+            cancel(seat, cells, own_place);
             own = Some(completion);
         } else {
-            let place = hand_one(seat, cells, kernel, completion);
+            let place = hand_one(seat, cells, kernel, completion, seen);
             scratch.woken |= bit_of(place);
         }
     }

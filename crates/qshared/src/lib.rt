@@ -5,7 +5,9 @@
 mod admitting;
 pub mod asking;
 mod call_scratch;
+mod cell_steps;
 mod close_buffers;
+pub mod delivery;
 pub mod ghost_history;
 pub mod ghost_trace;
 mod handing;

@@ -8,18 +8,20 @@ ghost use Rattle.qhandoff.specs.Words.{cells_id};
 ghost use Rattle.qshared.specs.Asking.{AreCallsOf, WaitedBefore, heard_in};
 ghost use Rattle.qshared.specs.Answered.{Answered, IsMet};
 ghost use Rattle.qshared.specs.Counting.{is_call};
+ghost use Rattle.qshared.specs.Delivered.{origin_of, IsOrigin};
 ghost use Rattle.qshared.specs.Due.{place};
 
 use crate::asking::{KernelCalls, PortCalls};
 use crate::call_scratch::CallScratch;
 use crate::close_buffers::CloseBuffers;
+use crate::delivery::{Delivery, Origin};
 use crate::history::Prefix;
 use crate::log::Log;
 use crate::port::{Called, is_call};
 use crate::tie::{Tie, Whole};
 use crate::traced::Traced;
 use qhandoff::cells::Cells;
-use qmodel::call::{Call, Completion};
+use qmodel::call::Call;
 use std::snapshot::Snapshot;
 use std::sync::ledger::{Book, Share};
 
@@ -82,14 +84,14 @@ impl<K: Tie, L: Log> LockState<K, L> {
     /// thread's share and adds it to the thread's list. Afterwards `seen` is the whole history.
     pub(crate) fn call(
         &mut self,
-        cells: &Cells<Completion>,
+        cells: &Cells<Delivery, Origin>,
         scratch: &mut CallScratch,
         share: &mut Share<K>,
         asked: &mut PortCalls,
         seen: &mut Prefix,
         call: Call,
     ) -> Called
-        requires cells { cells_id cells.now ≡ K.names.cells }
+        requires cells { (cells_id cells.now ≡ K.names.cells) × IsOrigin K.names (origin_of cells.now) }
         requires part { 0 < share.old.parts }
         requires seat { (place (threads_of K.names.roster) scratch.old.seat.thread
             ≡ Some scratch.old.seat.index) × (scratch.old.seat.index < K.names.cells.slots) }

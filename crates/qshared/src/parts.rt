@@ -6,17 +6,18 @@ ghost use Rattle.qrules.specs.Facts.{threads_of};
 ghost use Rattle.qkernel_state.specs.Contents.{members_of};
 ghost use Rattle.qkernel.specs.Matching.{MatchesAt};
 ghost use Rattle.qhandoff.specs.Steps.{seated_kernel_view};
-ghost use Rattle.qhandoff.specs.Words.{cells_id, kernel_id, count, kernel_view, took, IsRow};
+ghost use Rattle.qhandoff.specs.Words.{cells_id, kernel_id, count, took, IsRow};
 ghost use Rattle.qshared.specs.Asking.{asked_in, heard_in};
+ghost use Rattle.qshared.specs.Delivered.{kernel_view, origin_of};
 
 use crate::asking::{KernelCalls, PortCalls, halves};
+use crate::delivery::{Delivery, Origin};
 use crate::history::{History, Prefix};
 use qbase::errno::Errno;
 use qbase::ids::ThreadNo;
 use qhandoff::cells::Cells;
 use qhandoff::seats::{KernelSeat, ThreadSeat};
 use qkernel::kernel::Kernel;
-use qmodel::call::Completion;
 use qtables::member::Member;
 use qtables::roster::Roster;
 use std::alloc::{AllocError, Global};
@@ -26,9 +27,9 @@ use std::sync::ledger::Blank;
 /// names them.
 #[derive(Drop)]
 pub struct Parts {
-    pub(crate) cells: Cells<Completion>,
-    pub(crate) seat: KernelSeat<Completion>,
-    pub(crate) seats: Vec<ThreadSeat<Completion>>,
+    pub(crate) cells: Cells<Delivery, Origin>,
+    pub(crate) seat: KernelSeat<Delivery>,
+    pub(crate) seats: Vec<ThreadSeat<Delivery>>,
     pub(crate) blank: Blank,
     pub(crate) kernel: Kernel,
     pub(crate) threads: Vec<ThreadNo>,
@@ -47,6 +48,8 @@ pub struct Parts {
     ghost bounded: { (2 ≤ limit) × (limit ≤ 2 ^ 20) },
     ghost halves: { (map (λ a. a.name) asked.items ≡ map (λ h. h.name) heard.items)
         × (length asked.items ≡ count cells) × (length heard.items ≡ count cells) },
+    ghost origin: { ((origin_of cells).roster.value ≡ members_of kernel.threads)
+        × ((origin_of cells).seen.name ≡ history.name) },
     ghost unseen: { (history.name ≡ seen.name) × (history.trace ≡ []) × (seen.trace ≡ []) },
     ghost empty: { ((k : ℕ) → asked_in (get_elem? asked.items k) ≡ [])
         × ((k : ℕ) → heard_in (get_elem? heard.items k) ≡ []) },
@@ -99,10 +102,11 @@ impl Parts {
             return Err(Errno::Inval);
         }
         let threads = threads_in(alloc, roster.members())?;
-        let (cells, seat, seats) = Cells::new(alloc, threads.len())?;
+        let (history, seen) = History::begin();
+        let origin = Origin::new(roster, &seen);
+        let (cells, seat, seats) = Cells::new(alloc, threads.len(), &origin)?;
         let kernel = Kernel::new(alloc, roster)?;
         let (asked, heard) = lists(alloc, threads.len())?;
-        let (history, seen) = History::begin();
         Ok(Parts {
             cells,
             seat,

@@ -3,7 +3,8 @@
 ghost use Rattle.std.specs.Prelude.{◌≡◌, ◌≤◌, ◌+◌, ◌++◌, [], ◌∷◌, true, false, IfSome, MatchOption};
 ghost use Rattle.std.specs.Prelude.{if◌then◌else◌, slice_index_or, Some};
 ghost use Rattle.qrules.specs.Facts.{threads_of};
-ghost use Rattle.qhandoff.specs.Words.{cells_id, thread_id, thread_of, taken, IsThreadOf};
+ghost use Rattle.qhandoff.specs.Words.{cells_id, thread_id, thread_of, IsThreadOf};
+ghost use Rattle.qshared.specs.Delivered.{origin_of, taken, Arrives, IsAwaited, IsOrigin};
 ghost use Rattle.qshared.specs.History.{Extends};
 ghost use Rattle.qshared.specs.Asking.{IsSince, calls_of};
 ghost use Rattle.qshared.specs.Due.{AreLater, at_once, collected, place};
@@ -13,6 +14,7 @@ ghost use Rattle.qshared.specs.TwoCalls.{AnsweredBoth, is_ok, calls_in, asked_by
 
 use crate::asking::PortCalls;
 use crate::call_scratch::CallScratch;
+use crate::delivery::{Delivery, Origin};
 use crate::lock_state::LockState;
 use crate::log::Log;
 use crate::observed_prefix::ObservedPrefix;
@@ -59,7 +61,7 @@ pub enum CalledPair {
 #[derive(Drop)]
 pub struct Port<K: Tie> {
     pub(crate) thread: ThreadNo,
-    pub(crate) seat: ThreadSeat<Completion>,
+    pub(crate) seat: ThreadSeat<Delivery>,
     pub(crate) scratch: CallScratch,
     // The port's share of the count of all events.
     pub(crate) share: Share<K>,
@@ -127,48 +129,66 @@ fn bytes_of(call: Call) -> Option<Bytes> {
     }
 }
 
-/// Takes the completion that was put for a thread, if it is `pending` and there. The function has only the
-/// thread's token and the cells. So it can take no lock and no memory, and can't wait for another thread.
+/// Takes the completion that was put for a thread, if it is `pending` and there, and learns the history up to
+/// the event that made it. The function has only the thread's token and the cells. So it can take no lock and
+/// no memory, and can't wait for another thread.
 fn take(
-    seat: &mut ThreadSeat<Completion>,
-    cells: &Cells<Completion>,
+    seat: &mut ThreadSeat<Delivery>,
+    cells: &Cells<Delivery, Origin>,
     pending: &mut bool,
+    seen: &mut history::Prefix,
 ) -> Option<Completion>
-    requires { IsThreadOf cells.now seat.old }
+    requires seat { IsThreadOf cells.now seat.old }
+    requires seen { seen.old.name ≡ (origin_of cells.now).seen.name }
     ensures seat { (thread_id seat.new ≡ thread_id seat.old) × (thread_of seat.new ≡ thread_of seat.old) }
     ensures taken { MatchOption result (taken seat.new ≡ taken seat.old)
         (λ x. taken seat.new ≡ taken seat.old ++ x ∷ []) }
     ensures pending { MatchOption result (pending.new ≡ pending.old)
         (λ x. (pending.old ≡ true) × (pending.new ≡ false)) }
+    ensures name { seen.new.name ≡ seen.old.name }
+    ensures seen { MatchOption result (seen.new ≡ seen.old) (λ x. Extends seen.new.trace seen.old.trace) }
+    ensures arrives { IfSome result (λ x. Arrives (origin_of cells.now).roster.value (thread_of seat.old)
+        (taken seat.new) x seen.new.trace) }
 {
     if !*pending {
         return None;
     }
-    let completion = seat.poll(cells);
-    if completion.is_some() {
-        *pending = false;
-    }
-    completion
+    let Some(delivery) = seat.poll(cells) else {
+        return None;
+    };
+    let Delivery {
+        completion,
+        seen: made,
+    } = delivery;
+    seen.learn(&made);
+    *pending = false;
+    Some(completion)
 }
 
 /// Takes the completion that was put for a thread, as `take` does, but spins: it polls as often as `patience`
 /// says, with pauses between.
 fn look(
-    seat: &mut ThreadSeat<Completion>,
-    cells: &Cells<Completion>,
+    seat: &mut ThreadSeat<Delivery>,
+    cells: &Cells<Delivery, Origin>,
     pending: &mut bool,
+    seen: &mut history::Prefix,
     patience: &mut SpinPolicy,
 ) -> Option<Completion>
-    requires { IsThreadOf cells.now seat.old }
+    requires seat { IsThreadOf cells.now seat.old }
+    requires seen { seen.old.name ≡ (origin_of cells.now).seen.name }
     ensures seat { (thread_id seat.new ≡ thread_id seat.old) × (thread_of seat.new ≡ thread_of seat.old) }
     ensures taken { MatchOption result (taken seat.new ≡ taken seat.old)
         (λ x. taken seat.new ≡ taken seat.old ++ x ∷ []) }
     ensures pending { MatchOption result (pending.new ≡ pending.old)
         (λ x. (pending.old ≡ true) × (pending.new ≡ false)) }
+    ensures name { seen.new.name ≡ seen.old.name }
+    ensures seen { MatchOption result (seen.new ≡ seen.old) (λ x. Extends seen.new.trace seen.old.trace) }
+    ensures arrives { IfSome result (λ x. Arrives (origin_of cells.now).roster.value (thread_of seat.old)
+        (taken seat.new) x seen.new.trace) }
 {
     let backoff = Backoff::new();
     for _ in 0..patience.looks() {
-        let completion = take(seat, cells, pending);
+        let completion = take(seat, cells, pending, seen);
         if completion.is_some() {
             patience.note(true);
             return completion;
@@ -182,7 +202,7 @@ fn look(
 impl<K: Tie> Port<K> {
     pub(crate) fn new(
         scratch: CallScratch,
-        seat: ThreadSeat<Completion>,
+        seat: ThreadSeat<Delivery>,
         share: Share<K>,
         parker: Parker,
         asked: PortCalls,
@@ -234,6 +254,7 @@ impl<K: Tie> Port<K> {
         ensures pending { self.new.scratch.pending ≡ pends result self.old.scratch.pending }
         ensures taken { collected self.new.last.trace self.new.thread (taken self.new.seat)
             ≡ collected self.old.last.trace self.old.thread (taken self.old.seat) ++ gives result }
+        ensures last { self.new.last.trace ≡ self.new.seen.trace }
         ensures same { (self.new.thread ≡ self.old.thread)
             × (thread_of self.new.seat ≡ thread_of self.old.seat) }
     {
@@ -268,6 +289,7 @@ impl<K: Tie> Port<K> {
         ensures pending { self.new.scratch.pending ≡ pends_both result self.old.scratch.pending }
         ensures taken { collected self.new.last.trace self.new.thread (taken self.new.seat)
             ≡ collected self.old.last.trace self.old.thread (taken self.old.seat) ++ gives_both result }
+        ensures last { self.new.last.trace ≡ self.new.seen.trace }
         ensures same { (self.new.thread ≡ self.old.thread)
             × (thread_of self.new.seat ≡ thread_of self.old.seat) }
     {
@@ -304,11 +326,11 @@ impl<K: Tie> Port<K> {
     /// Makes a call of the thread under the lock, which the caller holds.
     fn make<L: Log>(
         &mut self,
-        cells: &Cells<Completion>,
+        cells: &Cells<Delivery, Origin>,
         locked: &mut LockState<K, L>,
         call: Call,
     ) -> Called
-        requires cells { cells_id cells.now ≡ K.names.cells }
+        requires cells { (cells_id cells.now ≡ K.names.cells) × IsOrigin K.names (origin_of cells.now) }
         requires copies { IfSome self.old.scratch.copies (λ c. c ≡ call) }
         ensures met { IsMet K.names.roster self.old.thread self.old.asked.calls self.old.seen.trace
             locked.old.traced.past }
@@ -321,6 +343,7 @@ impl<K: Tie> Port<K> {
         ensures pending { self.new.scratch.pending ≡ pends result self.old.scratch.pending }
         ensures taken { collected self.new.last.trace self.new.thread (taken self.new.seat)
             ≡ collected self.old.last.trace self.old.thread (taken self.old.seat) ++ gives result }
+        ensures last { self.new.last.trace ≡ self.new.seen.trace }
         ensures same { (self.new.thread ≡ self.old.thread)
             × (thread_of self.new.seat ≡ thread_of self.old.seat) }
     {
@@ -351,9 +374,18 @@ impl<K: Tie> Port<K> {
             (λ x. self.new.scratch.pending ≡ false) }
         ensures same { (self.new.thread ≡ self.old.thread)
             × (thread_of self.new.seat ≡ thread_of self.old.seat) × (self.new.calls ≡ self.old.calls)
-            × (self.new.asked ≡ self.old.asked) × (self.new.seen ≡ self.old.seen) }
+            × (self.new.asked ≡ self.old.asked) × (self.new.last ≡ self.old.last) }
+        ensures seen { MatchOption result (self.new.seen ≡ self.old.seen)
+            (λ x. Extends self.new.seen.trace self.old.seen.trace) }
+        ensures came { IfSome result (λ x. IsAwaited K.names.roster self.old.thread self.old.asked.calls
+            self.old.last.trace x self.new.seen.trace) }
     {
-        take(&mut self.seat, &shared.cells, &mut self.scratch.pending)
+        take(
+            &mut self.seat,
+            &shared.cells,
+            &mut self.scratch.pending,
+            &mut self.seen,
+        )
     }
 
     /// Waits for the thread's completion and takes it. Spins for some microseconds, unless there is only one
@@ -366,13 +398,17 @@ impl<K: Tie> Port<K> {
         ensures pending { self.new.scratch.pending ≡ false }
         ensures same { (self.new.thread ≡ self.old.thread)
             × (thread_of self.new.seat ≡ thread_of self.old.seat) × (self.new.calls ≡ self.old.calls)
-            × (self.new.asked ≡ self.old.asked) × (self.new.seen ≡ self.old.seen) }
+            × (self.new.asked ≡ self.old.asked) × (self.new.last ≡ self.old.last) }
+        ensures seen { Extends self.new.seen.trace self.old.seen.trace }
+        ensures came { IsAwaited K.names.roster self.old.thread self.old.asked.calls self.old.last.trace
+            result self.new.seen.trace }
     {
         let found = if shared.looks {
             look(
                 &mut self.seat,
                 &shared.cells,
                 &mut self.scratch.pending,
+                &mut self.seen,
                 &mut self.patience,
             )
         } else {
@@ -401,14 +437,28 @@ impl<K: Tie> Port<K> {
             (λ x. self.new.scratch.pending ≡ false) }
         ensures same { (self.new.thread ≡ self.old.thread)
             × (thread_of self.new.seat ≡ thread_of self.old.seat) × (self.new.calls ≡ self.old.calls)
-            × (self.new.asked ≡ self.old.asked) × (self.new.seen ≡ self.old.seen) }
+            × (self.new.asked ≡ self.old.asked) × (self.new.last ≡ self.old.last) }
+        ensures seen { MatchOption result (self.new.seen ≡ self.old.seen)
+            (λ x. Extends self.new.seen.trace self.old.seen.trace) }
+        ensures came { IfSome result (λ x. IsAwaited K.names.roster self.old.thread self.old.asked.calls
+            self.old.last.trace x self.new.seen.trace) }
     {
         let cell = self.seat.thread();
         shared.set_asleep(cell, true);
-        let mut completion = take(&mut self.seat, &shared.cells, &mut self.scratch.pending);
+        let mut completion = take(
+            &mut self.seat,
+            &shared.cells,
+            &mut self.scratch.pending,
+            &mut self.seen,
+        );
         if completion.is_none() {
             self.parker.park(rt);
-            completion = take(&mut self.seat, &shared.cells, &mut self.scratch.pending);
+            completion = take(
+                &mut self.seat,
+                &shared.cells,
+                &mut self.scratch.pending,
+                &mut self.seen,
+            );
         }
         shared.set_asleep(cell, false);
         completion
@@ -418,6 +468,7 @@ impl<K: Tie> Port<K> {
     /// serve for the bytes of the next call. Returns `None` if they were returned before.
     /// `endpoint.rt` of `crates/balsaeuchre_calls` keeps them for its replies.
     pub fn spare(&mut self) -> Option<Bytes>
+        ensures last { self.new.last ≡ self.old.last }
         ensures taken { collected self.new.last.trace self.new.thread (taken self.new.seat)
             ≡ collected self.old.last.trace self.old.thread (taken self.old.seat) }
         ensures pending { self.new.scratch.pending ≡ self.old.scratch.pending }

@@ -10,7 +10,8 @@ ghost use Rattle.qrules.specs.Lawful.{IsLawful};
 ghost use Rattle.qrules.specs.Trace.{followed_by};
 ghost use Rattle.qrules.specs.Properties.{HasProperties};
 ghost use Rattle.qkernel_state.specs.Contents.{members_of};
-ghost use Rattle.qhandoff.specs.Words.{cells_id, thread_of, taken, took, IsRow};
+ghost use Rattle.qhandoff.specs.Words.{cells_id, thread_of, took, IsRow};
+ghost use Rattle.qshared.specs.Delivered.{origin_of, taken, IsOrigin};
 ghost use Rattle.qshared.specs.Asking.{AreCallsOf, asked_in};
 ghost use Rattle.qshared.specs.Due.{AreDue, AreKnown, collected};
 ghost use Rattle.qshared.specs.Naming.{AreParts, AreAll};
@@ -20,6 +21,7 @@ ghost use Rattle.qshared.specs.Unrecorded.{HasPast};
 use crate::asking::{KernelCalls, PortCalls};
 use crate::call_scratch::CallScratch;
 use crate::close_buffers::CloseBuffers;
+use crate::delivery::{Delivery, Origin};
 use crate::ghost_history::GhostHistory;
 use crate::history::{History, Prefix};
 use crate::lock_state::LockState;
@@ -46,7 +48,7 @@ use std::sync::ledger::Share;
 /// The kernel under its lock, and the cells that it fills.
 #[derive(Drop)]
 pub struct Shared<K: Tie, L: Log> {
-    pub(crate) cells: Cells<Completion>,
+    pub(crate) cells: Cells<Delivery, Origin>,
     // It is padded, and its value is in a box. So a thread that spins for the lock reads a cache line that
     // has nothing else.
     pub(crate) lock: CachePadded<Mutex<Box<LockState<K, L>>>>,
@@ -55,6 +57,7 @@ pub struct Shared<K: Tie, L: Log> {
     // Whether a thread spins for some microseconds before it sleeps.
     pub(crate) looks: bool,
     ghost cells_are: { cells_id cells ≡ K.names.cells },
+    ghost origin_is: { IsOrigin K.names (origin_of cells) },
 }
 
 /// The log of a closed kernel, the number of each port's calls, and the completions that weren't collected.
@@ -65,14 +68,18 @@ struct Closed<L> {
     left: Vec<Completion>,
 }
 
-/// Returns the completions without the indices of their cells.
-fn without_places(mut left: Vec<(usize, Completion)>, mut room: Vec<Completion>) -> Vec<Completion>
+/// Returns the completions without the indices of their cells and without their histories.
+fn without_places(mut left: Vec<(usize, Delivery)>, mut room: Vec<Completion>) -> Vec<Completion>
     requires room { (room.items ≡ []) × (length left.items ≤ vec_capacity room) }
-    ensures { result.items ≡ map (λ x. x.1) left.items }
+    ensures { result.items ≡ map (λ x. x.1.completion) left.items }
 {
     left.reverse();
     while let Some(next) = left.pop() {
-        let (_, completion) = next;
+        let (_, delivery) = next;
+        let Delivery {
+            completion,
+            seen: _,
+        } = delivery;
         room.push_reserved(completion);
     }
     room
@@ -82,7 +89,7 @@ fn without_places(mut left: Vec<(usize, Completion)>, mut room: Vec<Completion>)
 fn ports_for<K: Tie>(
     kernel: &Kernel,
     threads: &[ThreadNo],
-    seats: Vec<ThreadSeat<Completion>>,
+    seats: Vec<ThreadSeat<Delivery>>,
     mut asked: Vec<PortCalls>,
     spare: &mut Share<K>,
     seen: &Prefix,
@@ -134,7 +141,7 @@ fn ports_for<K: Tie>(
 /// asked for, and the sum of all their shares. The history extends the prefix that each port has seen.
 fn gather<K: Tie>(
     ports: Vec<Port<K>>,
-    seats: &mut Vec<ThreadSeat<Completion>>,
+    seats: &mut Vec<ThreadSeat<Delivery>>,
     calls: &mut Vec<u64>,
     asked: &mut Vec<PortCalls>,
     spare: &mut Share<K>,

@@ -9,13 +9,16 @@ ghost use Rattle.qkernel_state.specs.Threads.{IsSeatIn};
 ghost use Rattle.qkernel.specs.Matching.{AnswersAtTraces, MatchesAt};
 ghost use Rattle.qhandoff.specs.Steps.{seated_kernel_view};
 ghost use Rattle.qshared.specs.History.{Extends};
-ghost use Rattle.qhandoff.specs.Words.{cells_id, kernel_id, kernel_view};
+ghost use Rattle.qhandoff.specs.Words.{cells_id, kernel_id};
 ghost use Rattle.qshared.specs.Asking.{WaitedBefore, calls_of};
 ghost use Rattle.qshared.specs.Counting.{is_call};
+ghost use Rattle.qshared.specs.Delivered.{kernel_view, origin_of, IsOrigin};
 ghost use Rattle.qshared.specs.Due.{place};
 ghost use Rattle.qshared.specs.Performing.{Performs, outcome};
 
 use crate::call_scratch::CallScratch;
+use crate::cell_steps::{cancel, open};
+use crate::delivery::{Delivery, Origin};
 use crate::handing::hand_out;
 use crate::history::{History, Prefix};
 use crate::log::Log;
@@ -37,7 +40,7 @@ use std::snapshot::Snapshot;
 #[derive(Drop)]
 pub struct Traced<K: Tie, L: Log> {
     pub(crate) kernel: Kernel,
-    pub(crate) seat: KernelSeat<Completion>,
+    pub(crate) seat: KernelSeat<Delivery>,
     pub(crate) log: L,
     pub(crate) history: History,
     pub(crate) of: PhantomData<K>,
@@ -47,7 +50,8 @@ impl<K: Tie, L: Log> Model for Traced<K, L> {
     ghost use Rattle.std.specs.Prelude.{◌≡◌};
     ghost use Rattle.qrules.specs.Facts.{threads_of};
     ghost use Rattle.qkernel_state.specs.Contents.{members_of};
-    ghost use Rattle.qhandoff.specs.Words.{kernel_id, kernel_view};
+    ghost use Rattle.qhandoff.specs.Words.{kernel_id};
+    ghost use Rattle.qshared.specs.Delivered.{kernel_view};
     ghost use Rattle.qshared.specs.UnderLock.{UnderLock, IsUnderLock};
 
     ghost Value = { UnderLock };
@@ -104,7 +108,7 @@ impl<K: Tie, L: Log> Traced<K, L> {
     /// Makes the value for a kernel that has made no call, with an empty history.
     pub(crate) fn new(
         kernel: Kernel,
-        seat: KernelSeat<Completion>,
+        seat: KernelSeat<Delivery>,
         log: L,
         history: History,
     ) -> Traced<K, L>
@@ -145,12 +149,12 @@ impl<K: Tie, L: Log> Traced<K, L> {
     /// has an open call, or a completion that it didn't take. Otherwise the log may refuse it.
     pub fn perform(
         &mut self,
-        cells: &Cells<Completion>,
+        cells: &Cells<Delivery, Origin>,
         scratch: &mut CallScratch,
         seen: &mut Prefix,
         call: Call,
     ) -> Called
-        requires cells { cells_id cells.now ≡ K.names.cells }
+        requires cells { (cells_id cells.now ≡ K.names.cells) × IsOrigin K.names (origin_of cells.now) }
         requires seat { place (threads_of K.names.roster) scratch.old.seat.thread
             ≡ Some scratch.old.seat.index }
         requires none { scratch.old.completions.value.items ≡ [] }
@@ -177,14 +181,14 @@ impl<K: Tie, L: Log> Traced<K, L> {
         if scratch.pending {
             return Called::Refused(Errno::Busy, call);
         }
-        if !self.seat.open(cells, place) {
+        if !open(&mut self.seat, cells, place) {
             return Called::Refused(Errno::Busy, call);
         }
         let asking = Snapshot::of(&call);
         let made = self.kernel.made();
         let copies = scratch.copies.take();
         if let Err(errno) = self.log.note(made, &call, copies) {
-            self.seat.cancel(cells, place);
+            cancel(&mut self.seat, cells, place);
             return Called::Refused(errno, call);
         }
         make_at(
@@ -199,7 +203,7 @@ impl<K: Tie, L: Log> Traced<K, L> {
         let history = &mut self.history;
         history.add(&thread, &asking, &*scratch.completions);
         history.look(seen);
-        let own = hand_out(&mut self.seat, cells, &self.kernel, scratch);
+        let own = hand_out(&mut self.seat, cells, &self.kernel, scratch, seen);
         ended_or_open(own)
     }
 }

@@ -5,7 +5,7 @@ ghost use Rattle.qhandoff.specs.Rule.{line};
 ghost use Rattle.qhandoff.specs.Words.{cells_id, count, kernel_view, kernel_id, thread_id, thread_of};
 ghost use Rattle.qhandoff.specs.Words.{IsKernelOf, IsThreadOf, IsRow};
 
-use crate::cells::making::{cells, completion, is_of, last_seat, seat_back};
+use crate::cells::making::{Plain, cells, completion, is_of, last_seat, seat_back};
 use qhandoff::cells::Cells;
 use qhandoff::seats::{KernelSeat, ThreadSeat};
 use qmodel::call::Completion;
@@ -18,8 +18,8 @@ use std::thread::{Threads, join};
 /// Opens the cell as soon as it is idle.
 fn open_when_idle(
     rt: &impl Wait,
-    cells: &Cells<Completion>,
-    kernel: &mut KernelSeat<Completion>,
+    cells: &Cells<Plain, ()>,
+    kernel: &mut KernelSeat<Plain>,
     thread: usize,
 )
     requires kernel { IsKernelOf cells.now kernel.old }
@@ -37,17 +37,14 @@ fn open_when_idle(
 }
 
 /// Polls until a completion comes.
-fn poll_until(
-    rt: &impl Wait,
-    cells: &Cells<Completion>,
-    seat: &mut ThreadSeat<Completion>,
-) -> Completion
+fn poll_until(rt: &impl Wait, cells: &Cells<Plain, ()>, seat: &mut ThreadSeat<Plain>) -> Completion
     requires seat { IsThreadOf cells.now seat.old }
     ensures seat { thread_id seat.new ≡ thread_id seat.old }
     ensures thread { thread_of seat.new ≡ thread_of seat.old }
 {
     for _ in rt.forever() {
-        if let Some(completion) = seat.poll(cells) {
+        if let Some(plain) = seat.poll(cells) {
+            let Plain { completion } = plain;
             return completion;
         }
         thread::yield_now();
@@ -59,8 +56,8 @@ fn poll_until(
 fn put_round(
     rt: &(impl Wait + Abort),
     alloc: Global,
-    cells: &Cells<Completion>,
-    kernel: &mut KernelSeat<Completion>,
+    cells: &Cells<Plain, ()>,
+    kernel: &mut KernelSeat<Plain>,
     call: u64,
 )
     requires kernel { IsKernelOf cells.now kernel.old }
@@ -68,7 +65,8 @@ fn put_round(
 {
     for thread in 0..cells.threads() {
         open_when_idle(rt, cells, kernel, thread);
-        kernel.put(cells, thread, completion(rt, alloc, call));
+        let completion = completion(rt, alloc, call);
+        kernel.put(cells, thread, Plain { completion });
     }
 }
 
@@ -76,10 +74,10 @@ fn put_round(
 fn put_all(
     rt: &(impl Wait + Abort),
     alloc: Global,
-    cells: &Cells<Completion>,
-    mut kernel: KernelSeat<Completion>,
+    cells: &Cells<Plain, ()>,
+    mut kernel: KernelSeat<Plain>,
     calls: u64,
-) -> KernelSeat<Completion>
+) -> KernelSeat<Plain>
     requires kernel { IsKernelOf cells.now kernel }
     ensures kernel { kernel_id result ≡ kernel_id kernel }
 {
@@ -92,10 +90,10 @@ fn put_all(
 /// Takes the completions of this many calls, numbered from 0, in order.
 fn take_all(
     rt: &(impl Wait + Abort),
-    cells: &Cells<Completion>,
-    mut seat: ThreadSeat<Completion>,
+    cells: &Cells<Plain, ()>,
+    mut seat: ThreadSeat<Plain>,
     calls: u64,
-) -> ThreadSeat<Completion>
+) -> ThreadSeat<Plain>
     requires seat { IsThreadOf cells.now seat }
     ensures seat { thread_id result ≡ thread_id seat }
     ensures thread { thread_of result ≡ thread_of seat }
@@ -125,8 +123,8 @@ fn one_puts_and_one_takes(rt: HostRuntime) {
 /// Each thread takes the completions of this many calls. Returns the number of threads.
 fn take_each<R: Threads + Wait + Abort + Sync>(
     rt: &R,
-    cells: &Cells<Completion>,
-    seats: Vec<ThreadSeat<Completion>>,
+    cells: &Cells<Plain, ()>,
+    seats: Vec<ThreadSeat<Plain>>,
     calls: u64,
 ) -> usize
     requires row { IsRow (cells_id cells.now) seats.items }
@@ -134,7 +132,7 @@ fn take_each<R: Threads + Wait + Abort + Sync>(
     let taken = thread::map_vec(
         rt,
         seats,
-        &|seat: ThreadSeat<Completion>| -> usize
+        &|seat: ThreadSeat<Plain>| -> usize
             requires { IsThreadOf cells.now seat }
         { take_all(rt, cells, seat, calls).thread() },
     );

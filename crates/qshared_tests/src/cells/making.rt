@@ -6,36 +6,40 @@ ghost use Rattle.qhandoff.specs.Words.{cells_id, count, thread_of, IsKernelOf, I
 use qbase::bytes::Bytes;
 use qbase::ids::ThreadNo;
 use qhandoff::cells::Cells;
+use qhandoff::delivered::Delivered;
 use qhandoff::seats::{KernelSeat, ThreadSeat};
 use qmodel::call::{Completion, Mark};
 use std::alloc::Global;
 use std::process::Abort;
+
+/// A completion that may always be put into a cell.
+#[derive(Drop)]
+pub struct Plain {
+    pub completion: Completion,
+}
+
+impl Delivered<()> for Plain {
+    ghost may_be_put = { λ _ _ _. Unit {0} };
+}
 
 /// Returns cells for this many threads, with their tokens.
 pub fn cells(
     rt: &impl Abort,
     alloc: Global,
     threads: usize,
-) -> (
-    Cells<Completion>,
-    KernelSeat<Completion>,
-    Vec<ThreadSeat<Completion>>,
-)
+) -> (Cells<Plain, ()>, KernelSeat<Plain>, Vec<ThreadSeat<Plain>>)
     ensures count { count result.0 ≡ threads }
     ensures kernel { IsKernelOf result.0 result.1 }
     ensures seats { (length result.2.items ≡ threads) × IsRow (cells_id result.0) result.2.items }
 {
-    let Ok(made) = Cells::new(alloc, threads) else {
+    let Ok(made) = Cells::new(alloc, threads, &()) else {
         panic!(rt; "no cells")
     };
     made
 }
 
 /// Removes and returns the token of the last thread.
-pub fn last_seat(
-    cells: &Cells<Completion>,
-    seats: &mut Vec<ThreadSeat<Completion>>,
-) -> ThreadSeat<Completion>
+pub fn last_seat(cells: &Cells<Plain, ()>, seats: &mut Vec<ThreadSeat<Plain>>) -> ThreadSeat<Plain>
     requires some { 0 < length seats.old.items }
     requires row { IsRow (cells_id cells.now) seats.old.items }
     ensures seat { IsThreadOf cells.now result }
@@ -52,9 +56,9 @@ pub fn last_seat(
 /// Adds the token of the next thread at the end.
 pub fn seat_back(
     rt: &impl Abort,
-    cells: &Cells<Completion>,
-    seats: &mut Vec<ThreadSeat<Completion>>,
-    seat: ThreadSeat<Completion>,
+    cells: &Cells<Plain, ()>,
+    seats: &mut Vec<ThreadSeat<Plain>>,
+    seat: ThreadSeat<Plain>,
 )
     requires seat { IsThreadOf cells.now seat }
     requires thread { thread_of seat ≡ length seats.old.items }

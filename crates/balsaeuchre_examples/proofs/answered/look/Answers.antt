@@ -1,4 +1,7 @@
 use Rattle.balsaeuchre_examples.proofs.Common.{ap, sym}
+use Rattle.balsaeuchre.proofs.SeenCompletions.{awaited_as, gives_as}
+use Rattle.balsaeuchre.specs.Delivered.{taken}
+use Rattle.balsaeuchre.specs.Due.{collected}
 use Rattle.balsaeuchre_examples.proofs.Told.{met_after}
 use Rattle.balsaeuchre_examples.proofs.answered.look.Goals as goal
 
@@ -7,8 +10,11 @@ returns g c =
     let came = c.state.ensures.1.1 in
     let l = c.learn.ensures in (
       came.0,
+      came.1,
       rw (sym l.same.0, sym (ap (λ a. a.calls) l.same.1))
-          (met_after c.args.note.now.seen c.args.note.now.sent c.in_real_time.ensures l.own l.others came.1),
-      came.2,
-      rw (sym l.same.0, sym l.same.2, sym l.same.4) came.3,
+          (met_after c.args.note.now.seen c.completions_in_real_time.ensures l.own l.others
+          came.2),
+      came.3,
+      gives_as came.0 _ _ _ _ _ (λ i. collected (l.same.4 i).trace (l.same.0 i) (taken (l.same.2 i)))
+          (awaited_as _ l.same.0 (ap (λ a. a.calls) l.same.1)) came.4,
     )

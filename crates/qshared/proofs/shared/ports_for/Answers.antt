@@ -1,7 +1,8 @@
 use Rattle.qshared.proofs.Common.{◌≡◌, refl, false, ◌+◌, ◌++◌, ◌∷◌, [], suc, arith, sym, ap, subst, ◌∙◌, map, reverse}
 use Rattle.qshared.proofs.Common.{length, length-append, append_assoc, get_or, ◌<◌, common_steps, YieldsList-from_vec}
 use Rattle.qshared.proofs.Common.{length-map, get_elem?, Some, same_Some, none-some, rises, at_index, taken, thread_of}
-use Rattle.qshared.proofs.Common.{took, asked_in, collected, place}
+use Rattle.qshared.proofs.Common.{asked_in, collected, completions_in, place}
+use Rattle.qhandoff.specs.Words as cells
 use Rattle.std.proofs.lemmas.Iterator.Consumers.{YieldsList-turn, YieldsList-end}
 use lib.Seq.{get_or-append_seam}
 use Rattle.qrules.proofs.Words.Facts.{threads_of}
@@ -196,8 +197,9 @@ new-port-requires-clause-taken g c =
     (c.into_iter-seat-iterator.ensures.into_iter_gives.1 ∙ c.args.seats.ok.0)) c.loop-seat.yielded
     c.loop-seat.seat-iterator c.loop-seat.yielded_by c.next.result c.next.new.self c.in-Some.seat c.in-Some.is
     c.next.ensures.steps in
-    ap took (sym (at_index c.args.seats.items (length c.loop-seat.yielded) c.in-Some.seat t.0 t.1))
-    ∙ c.requires.seats.2 (length c.loop-seat.yielded)
+    ap completions_in
+    (ap cells.took (sym (at_index c.args.seats.items (length c.loop-seat.yielded) c.in-Some.seat t.0 t.1))
+    ∙ c.requires.seats.2 (length c.loop-seat.yielded))
 
 pub new-port-requires-clause-seen : goal.new-port-requires-clause-seen
 new-port-requires-clause-seen g c =

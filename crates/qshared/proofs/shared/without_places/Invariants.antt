@@ -3,7 +3,7 @@ use Rattle.qshared.proofs.shared.without_places.Given as goal
 
 abbrev pub invariant-loop-next : goal.invariant-loop-next
 invariant-loop-next l = record {
-  told : l.room.items ++ map (λ x. x.1) (reverse l.left.items) ≡ map (λ x. x.1) l.fn.left.items;
+  told : l.room.items ++ map (λ x. x.1.completion) (reverse l.left.items) ≡ map (λ x. x.1.completion) l.fn.left.items;
   room : length l.room.items + length l.left.items ≤ vec_capacity l.room;
 }
 

@@ -45,10 +45,11 @@ returns-in-Both-clause-came g c =
     record {
       between = c.completed_of.new.self.endpoint;
       answer = _;
-      both = subst (g.E.Endpoint.came_both c.args.self.now.endpoint c.args.first c.args.second _) (sym l.seen) was.came;
+      was = _;
+      both = was.came;
       gives =
           leads_gives_both c.in-Both.field-0 c.in-Both.called (g.E.Endpoint.history c.args.self.now.endpoint).taken _ _
-          _ was.taken l.leads;
+          _ _ _ was.taken l.leads l.waits was.waits;
       then = inl (refl, refl, leads_told _ _ _ _ l.leads ∙ was.told);
     }
 
@@ -59,9 +60,12 @@ returns-in_err-completed_of-in-First-clause-came g c =
     record {
       between = c.completed_of-in-First.new.self.endpoint;
       answer = _;
-      both = subst (g.E.Endpoint.came_both c.args.self.now.endpoint c.args.first c.args.second _) (sym l.seen) was.came;
+      was = _;
+      both = was.came;
       gives =
-          leads_gives c.in-First.called (g.E.Endpoint.history c.args.self.now.endpoint).taken _ _ _ was.taken l.leads;
+          leads_gives c.in-First.called (g.E.Endpoint.history c.args.self.now.endpoint).taken _ _ _ _ _ was.taken
+          l.leads
+          l.waits was.waits;
       then = inl (refl, refl, leads_told _ _ _ _ l.leads ∙ was.told);
     }
 
@@ -72,9 +76,12 @@ returns-in_err-done-in-First-clause-came g c =
     record {
       between = c.completed_of-in-First.new.self.endpoint;
       answer = _;
-      both = subst (g.E.Endpoint.came_both c.args.self.now.endpoint c.args.first c.args.second _) (sym l.seen) was.came;
+      was = _;
+      both = was.came;
       gives =
-          leads_gives c.in-First.called (g.E.Endpoint.history c.args.self.now.endpoint).taken _ _ _ was.taken l.leads;
+          leads_gives c.in-First.called (g.E.Endpoint.history c.args.self.now.endpoint).taken _ _ _ _ _ was.taken
+          l.leads
+          l.waits was.waits;
       then = inl (refl, refl, leads_told _ _ _ _ l.leads ∙ was.told);
     }
 
@@ -85,13 +92,17 @@ returns-clause-came g c =
     let e = c.completed_of-in-First.new.self.endpoint in
     let last = c.make.new.self.endpoint in
     let came =
-    subst (λ d. ComesOf (λ e. g.E.Endpoint.history e) g.E.Endpoint.came e d (g.E.Endpoint.seen last)
+    subst (λ d. ComesOf (λ e. g.E.Endpoint.history e) g.E.Endpoint.came g.E.Endpoint.awaited e d
+    (g.E.Endpoint.seen last)
     (g.E.Endpoint.history last)) was.turn.1 c.make.ensures.came in
     record {
       between = e;
       answer = _;
-      both = subst (g.E.Endpoint.came_both c.args.self.now.endpoint c.args.first c.args.second _) (sym l.seen) was.came;
+      was = _;
+      both = was.came;
       gives =
-          leads_gives c.in-First.called (g.E.Endpoint.history c.args.self.now.endpoint).taken _ _ _ was.taken l.leads;
+          leads_gives c.in-First.called (g.E.Endpoint.history c.args.self.now.endpoint).taken _ _ _ _ _ was.taken
+          l.leads
+          l.waits was.waits;
       then = inr came;
     }

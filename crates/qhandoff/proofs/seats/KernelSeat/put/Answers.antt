@@ -1,5 +1,6 @@
 use Rattle.qhandoff.proofs.Common.{◌<◌, rules, arith, None, sym, subst, ap, ◌∙◌, length, length-set, get_or-set_same, ℕ}
-use Rattle.qhandoff.proofs.Common.{idle_line, kernel_view_in, put_kernel_view}
+use Rattle.qhandoff.proofs.Common.{◌++◌, ◌∷◌, [], idle_line, kernel_view_in, put_kernel_view}
+use Rattle.qhandoff.specs.Words.{origin_of}
 use Rattle.qhandoff.proofs.Allowed.{begin_allowed, end_allowed}
 use Rattle.qhandoff.proofs.Rests.{carries, in_put, after_put, kernel_rests, none_putting}
 use Rattle.qhandoff.proofs.seats.KernelSeat.put.Goals as goal
@@ -24,7 +25,10 @@ store-requires g c = let k = c.args.self.now.knows in
       end_allowed _
           _ _ _ _ _ _ c.args.completion c.args.cells.now.keyed c.word_of-word.ensures.word
           (in_put _ _ _ d _ _ _ _ c.word_of-word.ensures.cell k.0 c.load.ensures.2 c.exchange.ensures.3)
-          c.requires.thread (ap (λ z. z.putting) (get_or-set_same d.lines c.args.thread _ idle_line near)),
+          c.requires.thread (ap (λ z. z.putting) (get_or-set_same d.lines c.args.thread _ idle_line near))
+          (subst (λ z. g.T.Delivered.may_be_put (origin_of c.args.cells.now) c.args.thread
+          (z.put ++ c.args.completion ∷ []))
+          (sym (get_or-set_same d.lines c.args.thread _ idle_line near)) c.requires.allowed),
     )
 
 pub invariant_of-self : goal.invariant_of-self

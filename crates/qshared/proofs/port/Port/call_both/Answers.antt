@@ -1,4 +1,5 @@
-use Rattle.qshared.proofs.Common.{refl, subst, sym, ◌∙◌, Answered}
+use Rattle.qshared.proofs.Common.{refl, subst, sym, ap, ◌∙◌, ◌++◌, ◌∷◌, [], cond, append_assoc, collected}
+use Rattle.qshared.proofs.Common.{gives, is_call, taken, Answered}
 use Rattle.qshared.proofs.port.Port.call_both.Goals as goal
 use Rattle.qshared.proofs.port.Port.call_both.Goals.{in-Done+then-is_ok, in-Done+else-is_ok, in-Blocked, in-Refused}
 
@@ -56,4 +57,33 @@ returns-clause-same g c =
       | in-Done+else-is_ok w ↦ rw w.self-is w.in-Done.ensures.same
       | in-Blocked w ↦ rw w.self-is w.in-Blocked.ensures.same
       | in-Refused w ↦ rw w.self-is w.in-Refused.ensures.same
+    ]
+
+pub returns-clause-asked : goal.returns-clause-asked
+returns-clause-asked g c =
+    let old = c.args.self.now.asked.calls in
+    elim c.match-first.branch [
+      | in-Done+then-is_ok w ↦
+          let more = cond (is_call w.make-second.result) (c.args.second ∷ []) [] in
+          rw (w.self-is, w.called-is)
+          (w.make-second.ensures.asked ∙ ap (λ cs. cs ++ more) w.in-Done.ensures.asked
+          ∙ append_assoc old (c.args.first ∷ []) more)
+      | in-Done+else-is_ok w ↦ rw (w.self-is, w.called-is) w.in-Done.ensures.asked
+      | in-Blocked w ↦ rw (w.self-is, w.called-is) w.in-Blocked.ensures.asked
+      | in-Refused w ↦ rw (w.self-is, w.called-is) w.in-Refused.ensures.asked
+    ]
+
+pub returns-clause-taken : goal.returns-clause-taken
+returns-clause-taken g c =
+    let self = c.args.self.now in
+    let old = collected self.last.trace self.thread (taken self.seat) in
+    elim c.match-first.branch [
+      | in-Done+then-is_ok w ↦
+          let more = gives w.make-second.result in
+          rw (w.self-is, w.called-is)
+          (w.make-second.ensures.taken ∙ ap (λ xs. xs ++ more) w.in-Done.ensures.taken
+          ∙ append_assoc old _ more)
+      | in-Done+else-is_ok w ↦ rw (w.self-is, w.called-is) w.in-Done.ensures.taken
+      | in-Blocked w ↦ rw (w.self-is, w.called-is) w.in-Blocked.ensures.taken
+      | in-Refused w ↦ rw (w.self-is, w.called-is) w.in-Refused.ensures.taken
     ]

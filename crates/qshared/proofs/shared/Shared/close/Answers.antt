@@ -3,6 +3,8 @@ use Rattle.qshared.proofs.Common.{length-map, get_elem?, rises, cells_id, count,
 use Rattle.qshared.proofs.Common.{calls_of, AreDue, AreKnown, collected, later_due, of_thread, place, AreSeen}
 use Rattle.qshared.proofs.Common.{RiseByThread, at_map}
 use Rattle.qrules.proofs.Words.Facts.{threads_of}
+use Rattle.qhandoff.specs.Words as cells
+use Rattle.qshared.proofs.Deliveries.{left_all, left_below, left_length, left_of, left_rises, left_told}
 use Rattle.qshared.proofs.Leftover.{all_due, at_port, few_left, left_by_thread, left_due, left_known, port_due}
 use Rattle.qshared.proofs.Lists.{map_both, names_of}
 use Rattle.qshared.proofs.Places.{place_below, place_same}
@@ -21,10 +23,11 @@ close-left-requires-clause-threads g c =
 pub without_places-requires : goal.without_places-requires
 without_places-requires g c =
     let few =
-    few_left (count c.args.self.cells) c.close-left.result.items c.close-left.ensures.rises
-    c.close-left.ensures.within in
+    few_left (count c.args.self.cells) (left_of c.close-left.result.items) (left_rises _ c.close-left.ensures.rises)
+    (left_below _ _ c.close-left.ensures.within) in
+    let many = left_length c.close-left.result.items in
     let roomy = c.into_inner-traced.result.room.roomy in
-    record { room = (roomy.4, omega (arith, few, roomy.5, ap (λ y. y.slots) c.args.self.cells_are)) }
+    record { room = (roomy.4, omega (arith, few, many, roomy.5, ap (λ y. y.slots) c.args.self.cells_are)) }
 
 pub agree-requires : goal.agree-requires
 agree-requires g c =
@@ -52,61 +55,67 @@ returns-clause-sum g c =
 
 pub returns-clause-rises : goal.returns-clause-rises
 returns-clause-rises g c =
+    let all = left_of c.close-left.result.items in
     let h = c.traced.invariant.2 in
     let ts = threads_of g.K.Tie.names.roster in
     let long : count c.args.self.cells ≡ length ts = ap (λ y. y.slots) c.args.self.cells_are ∙ sym h.sized
     ∙ sym (length-map g.K.Tie.names.roster (λ m. m.thread)) in
-    let below : AreBelow (length ts) c.close-left.result.items =
-    subst (λ n. AreBelow n c.close-left.result.items) long c.close-left.ensures.within in
+    let below : AreBelow (length ts) all =
+    subst (λ n. AreBelow n all) long (left_below _ _ c.close-left.ensures.within) in
     let told : (t i : ℕ) → place ts t ≡ Some i
-    → took (get_elem? (map (λ p. p.seat) c.args.ports.items) i) ++ left_for i c.close-left.result.items ≡ later_due
+    → took (get_elem? (map (λ p. p.seat) c.args.ports.items) i) ++ left_for i all ≡ later_due
     (g.L.Log.past c.traced.inside.log) t =
-    λ t i at. ap (λ ss. took (get_elem? ss i) ++ left_for i c.close-left.result.items) (sym c.gather.ensures.seats)
-    ∙ c.close-left.ensures.told i (subst (λ n. i < n) (sym long) (place_below ts t i at)) ∙ (h.told.tied t i at).0 in
-    subst RiseByThread (sym c.without_places.ensures)
-    (left_by_thread ts (g.L.Log.past c.traced.inside.log) c.close-left.result.items
-    (rises g.K.Tie.names.roster h.rises) c.close-left.ensures.rises below
+    λ t i at. ap (λ ss. took (get_elem? ss i) ++ left_for i all) (sym c.gather.ensures.seats)
+    ∙ left_told i _ c.close-left.result.items (cells.kernel_view c.traced.inside.seat)
+    (c.close-left.ensures.told i (subst (λ n. i < n) (sym long) (place_below ts t i at))) ∙ (h.told.tied t i at).0 in
+    subst RiseByThread (sym (c.without_places.ensures ∙ left_all c.close-left.result.items))
+    (left_by_thread ts (g.L.Log.past c.traced.inside.log) all
+    (rises g.K.Tie.names.roster h.rises) (left_rises _ c.close-left.ensures.rises) below
     (λ i. took (get_elem? (map (λ p. p.seat) c.args.ports.items) i)) told)
 
 pub returns-clause-known : goal.returns-clause-known
 returns-clause-known g c =
+    let all = left_of c.close-left.result.items in
     let h = c.traced.invariant.2 in
     let ts = threads_of g.K.Tie.names.roster in
     let long : count c.args.self.cells ≡ length ts = ap (λ y. y.slots) c.args.self.cells_are ∙ sym h.sized
     ∙ sym (length-map g.K.Tie.names.roster (λ m. m.thread)) in
-    let below : AreBelow (length ts) c.close-left.result.items =
-    subst (λ n. AreBelow n c.close-left.result.items) long c.close-left.ensures.within in
+    let below : AreBelow (length ts) all =
+    subst (λ n. AreBelow n all) long (left_below _ _ c.close-left.ensures.within) in
     let told : (t i : ℕ) → place ts t ≡ Some i
-    → took (get_elem? (map (λ p. p.seat) c.args.ports.items) i) ++ left_for i c.close-left.result.items ≡ later_due
+    → took (get_elem? (map (λ p. p.seat) c.args.ports.items) i) ++ left_for i all ≡ later_due
     (g.L.Log.past c.traced.inside.log) t =
-    λ t i at. ap (λ ss. took (get_elem? ss i) ++ left_for i c.close-left.result.items) (sym c.gather.ensures.seats)
-    ∙ c.close-left.ensures.told i (subst (λ n. i < n) (sym long) (place_below ts t i at)) ∙ (h.told.tied t i at).0 in
-    subst (AreKnown g.K.Tie.names.roster) (sym c.without_places.ensures)
-    (left_known ts (g.L.Log.past c.traced.inside.log) c.close-left.result.items
-    (rises g.K.Tie.names.roster h.rises) c.close-left.ensures.rises below
+    λ t i at. ap (λ ss. took (get_elem? ss i) ++ left_for i all) (sym c.gather.ensures.seats)
+    ∙ left_told i _ c.close-left.result.items (cells.kernel_view c.traced.inside.seat)
+    (c.close-left.ensures.told i (subst (λ n. i < n) (sym long) (place_below ts t i at))) ∙ (h.told.tied t i at).0 in
+    subst (AreKnown g.K.Tie.names.roster) (sym (c.without_places.ensures ∙ left_all c.close-left.result.items))
+    (left_known ts (g.L.Log.past c.traced.inside.log) all
+    (rises g.K.Tie.names.roster h.rises) (left_rises _ c.close-left.ensures.rises) below
     (λ i. took (get_elem? (map (λ p. p.seat) c.args.ports.items) i)) told g.K.Tie.names.roster refl)
 
 pub returns-clause-due : goal.returns-clause-due
 returns-clause-due g c =
+    let all = left_of c.close-left.result.items in
     let h = c.traced.invariant.2 in
     let past = g.L.Log.past c.traced.inside.log in
     let ts = threads_of g.K.Tie.names.roster in
     let ports = c.args.ports.items in
     let long : count c.args.self.cells ≡ length ts = ap (λ y. y.slots) c.args.self.cells_are ∙ sym h.sized
     ∙ sym (length-map g.K.Tie.names.roster (λ m. m.thread)) in
-    let below : AreBelow (length ts) c.close-left.result.items =
-    subst (λ n. AreBelow n c.close-left.result.items) long c.close-left.ensures.within in
+    let below : AreBelow (length ts) all =
+    subst (λ n. AreBelow n all) long (left_below _ _ c.close-left.ensures.within) in
     let told : (t i : ℕ) → place ts t ≡ Some i
-    → took (get_elem? (map (λ p. p.seat) ports) i) ++ left_for i c.close-left.result.items ≡ later_due past t =
-    λ t i at. ap (λ ss. took (get_elem? ss i) ++ left_for i c.close-left.result.items) (sym c.gather.ensures.seats)
-    ∙ c.close-left.ensures.told i (subst (λ n. i < n) (sym long) (place_below ts t i at)) ∙ (h.told.tied t i at).0 in
-    let left = map (λ x. x.1) c.close-left.result.items in
-    let cells =
-    left_due ts past c.close-left.result.items (rises g.K.Tie.names.roster h.rises) c.close-left.ensures.rises below
+    → took (get_elem? (map (λ p. p.seat) ports) i) ++ left_for i all ≡ later_due past t =
+    λ t i at. ap (λ ss. took (get_elem? ss i) ++ left_for i all) (sym c.gather.ensures.seats)
+    ∙ left_told i _ c.close-left.result.items (cells.kernel_view c.traced.inside.seat)
+    (c.close-left.ensures.told i (subst (λ n. i < n) (sym long) (place_below ts t i at))) ∙ (h.told.tied t i at).0 in
+    let left = map (λ x. x.1) all in
+    let whole =
+    left_due ts past all (rises g.K.Tie.names.roster h.rises) (left_rises _ c.close-left.ensures.rises) below
     (λ i. took (get_elem? (map (λ p. p.seat) ports) i)) told in
     let many : length ports ≡ length ts = c.requires.all.0 ∙ ap (λ y. y.slots) (sym c.args.self.cells_are) ∙ long in
     subst (λ l. AreDue g.K.Tie.names.roster (map (λ p. collected p.last.trace p.thread (taken p.seat)) ports) l past)
-    (sym c.without_places.ensures)
+    (sym (c.without_places.ensures ∙ left_all c.close-left.result.items))
     (all_due (λ p. p.seat) (λ p. collected p.last.trace p.thread (taken p.seat)) g.K.Tie.names.roster past left ports
     many (λ t k p at is mine.
     let same = place_same ts p.thread t k (p.thread_is ∙ ap Some (c.requires.all.1 k p at)) is in
@@ -117,7 +126,7 @@ returns-clause-due g c =
     ∙ at_port (λ q. q.seat) (λ q. []) g.K.Tie.names.roster past left (λ q. q.asked.calls) ports k p [] at in
     let o = h.told.owed t k is in
     port_due past p.seen.trace p.last.trace p.asked.calls p.thread t (taken p.seat)
-    (of_thread t left) p.scratch.pending _ same extends p.since now p.calls_are p.later o.later o.whole mine) cells)
+    (of_thread t left) p.scratch.pending _ same extends p.since now p.calls_are p.later o.later o.whole mine) whole)
 
 pub returns-clause-seen : goal.returns-clause-seen
 returns-clause-seen g c =

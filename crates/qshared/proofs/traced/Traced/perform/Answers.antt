@@ -1,10 +1,12 @@
 use Rattle.qshared.proofs.Common.{◌≡◌, length, sym, ◌∙◌, ap, refl, subst, inl, inr, arith, Some, with_event}
-use Rattle.qshared.proofs.Common.{kernel_view, threads_of, seat_kept, Extends, WaitedBefore, calls_of, place}
+use Rattle.qshared.proofs.Common.{cancelled_kernel_view, kernel_view, threads_of, seat_kept, Extends, WaitedBefore}
+use Rattle.qshared.proofs.Common.{calls_of, place}
 use Rattle.qshared.proofs.Common.{AnswersAtTraces, matches_down, matches_made, matches_roster}
 use Rattle.qshared.proofs.Turns.{still_waited}
 use Rattle.qshared.proofs.Places.{seat_at_place}
 use Rattle.qshared.proofs.Keeps.{is_known, is_shut, is_busy, is_pending, free, same_kernel_view, held_after, apart}
-use Rattle.qshared.proofs.Keeps.{may_put, performs}
+use Rattle.qshared.proofs.Deliveries.{wide_lines}
+use Rattle.qshared.proofs.Keeps.{may_arrive, may_put, performs}
 use Rattle.qshared.proofs.traced.Traced.perform.Goals as goal
 
 pub returns-then-is_down-clause-performs : goal.returns-then-is_down-clause-performs
@@ -58,18 +60,16 @@ invariant_of-self-in-Err g c =
     c.requires.seat ∙ ap Some (sym c.index-place.ensures) in
     let up = sym c.is_down.ensures ∙ c.if-is_down.false in
     let opened = c.if-not-open.ensures.kernel_view in
-    let wide : length (kernel_view c.self.inside.seat).lines ≡ g.K.Tie.names.cells.slots = c.self.inside.seat.knows.1
+    let wide : length (kernel_view c.self.inside.seat).lines ≡ g.K.Tie.names.cells.slots = wide_lines c.self.inside.seat
     ∙ ap (λ z. z.slots) c.self.invariant.0 in
+    let whole : kernel_view c.cancel.new.seat ≡ kernel_view c.self.inside.seat =
+    c.cancel.ensures.kernel_view ∙ ap (λ d. cancelled_kernel_view d c.index-place.result) opened.0
+    ∙ same_kernel_view _ _ _ _ _ _ c.self.invariant.2 c.args.scratch.now.seat.thread c.index-place.result at up
+    opened.1 wide in
     let same = c.note.ensures.same in (
       c.cancel.ensures.cells ∙ c.open.ensures.cells ∙ c.self.invariant.0,
       same.1 ∙ c.self.invariant.1,
-      rw (
-        c.cancel.ensures.kernel_view,
-        opened.0,
-        same_kernel_view _ _ _ _ _ _ c.self.invariant.2 c.args.scratch.now.seat.thread c.index-place.result at up
-            opened.1 wide,
-        same.0,
-      ) c.self.invariant.2,
+      rw (whole, same.0) c.self.invariant.2,
       (
         ap (λ h. h.name) c.look.ensures.same ∙ c.self.invariant.3.0,
         ap (λ h. h.trace) c.look.ensures.same
@@ -83,17 +83,14 @@ returns-in-Err-clause-performs g c =
     c.requires.seat ∙ ap Some (sym c.index-place.ensures) in
     let up = sym c.is_down.ensures ∙ c.if-is_down.false in
     let opened = c.if-not-open.ensures.kernel_view in
-    let wide : length (kernel_view c.self.inside.seat).lines ≡ g.K.Tie.names.cells.slots = c.self.inside.seat.knows.1
+    let wide : length (kernel_view c.self.inside.seat).lines ≡ g.K.Tie.names.cells.slots = wide_lines c.self.inside.seat
     ∙ ap (λ z. z.slots) c.self.invariant.0 in
+    let whole : kernel_view c.cancel.new.seat ≡ kernel_view c.self.inside.seat =
+    c.cancel.ensures.kernel_view ∙ ap (λ d. cancelled_kernel_view d c.index-place.result) opened.0
+    ∙ same_kernel_view _ _ _ _ _ _ c.self.invariant.2 c.args.scratch.now.seat.thread c.index-place.result at up
+    opened.1 wide in
     let same = c.note.ensures.same in
-    rw (
-      ← c.self.view_is,
-      c.cancel.ensures.kernel_view,
-      opened.0,
-      same_kernel_view _ _ _ _ _ _ c.self.invariant.2 c.args.scratch.now.seat.thread c.index-place.result at up
-          opened.1 wide,
-      same.0,
-    ) (
+    rw (← c.self.view_is, whole, same.0) (
       refl,
       refl,
       inr (
@@ -126,7 +123,7 @@ event-requires-clause-thread g c =
     c.requires.seat ∙ ap Some (sym c.index-place.ensures) in
     let up = sym c.is_down.ensures ∙ c.if-is_down.false in
     let opened = c.if-not-open.ensures.kernel_view in
-    let wide : length (kernel_view c.self.inside.seat).lines ≡ g.K.Tie.names.cells.slots = c.self.inside.seat.knows.1
+    let wide : length (kernel_view c.self.inside.seat).lines ≡ g.K.Tie.names.cells.slots = wide_lines c.self.inside.seat
     ∙ ap (λ z. z.slots) c.self.invariant.0 in
     let same = c.note.ensures.same in
     rw (same.1 ∙ c.self.invariant.1, same.0) (
@@ -150,7 +147,7 @@ hand_out-own-requires-clause-apart g c =
     c.requires.seat ∙ ap Some (sym c.index-place.ensures) in
     let up = sym c.is_down.ensures ∙ c.if-is_down.false in
     let opened = c.if-not-open.ensures.kernel_view in
-    let wide : length (kernel_view c.self.inside.seat).lines ≡ g.K.Tie.names.cells.slots = c.self.inside.seat.knows.1
+    let wide : length (kernel_view c.self.inside.seat).lines ≡ g.K.Tie.names.cells.slots = wide_lines c.self.inside.seat
     ∙ ap (λ z. z.slots) c.self.invariant.0 in
     apart _ _ _ _ _ _ c.self.invariant.2 c.args.scratch.now.seat.thread c.index-place.result at up opened.1 wide
     c.in_default.ensures.few c.args.call c.make_at.new.completions.items c.make_at.new.kernel event
@@ -163,7 +160,7 @@ hand_out-own-requires-clause-may g c =
     c.requires.seat ∙ ap Some (sym c.index-place.ensures) in
     let up = sym c.is_down.ensures ∙ c.if-is_down.false in
     let opened = c.if-not-open.ensures.kernel_view in
-    let wide : length (kernel_view c.self.inside.seat).lines ≡ g.K.Tie.names.cells.slots = c.self.inside.seat.knows.1
+    let wide : length (kernel_view c.self.inside.seat).lines ≡ g.K.Tie.names.cells.slots = wide_lines c.self.inside.seat
     ∙ ap (λ z. z.slots) c.self.invariant.0 in
     rw (c.make_at.ensures.roster, opened.0)
     (may_put _ _ _ _ _ _ c.self.invariant.2 c.args.scratch.now.seat.thread c.index-place.result at up opened.1 wide
@@ -177,7 +174,7 @@ invariant_of-self-2 g c =
     c.requires.seat ∙ ap Some (sym c.index-place.ensures) in
     let up = sym c.is_down.ensures ∙ c.if-is_down.false in
     let opened = c.if-not-open.ensures.kernel_view in
-    let wide : length (kernel_view c.self.inside.seat).lines ≡ g.K.Tie.names.cells.slots = c.self.inside.seat.knows.1
+    let wide : length (kernel_view c.self.inside.seat).lines ≡ g.K.Tie.names.cells.slots = wide_lines c.self.inside.seat
     ∙ ap (λ z. z.slots) c.self.invariant.0 in
     let handed = rw (c.make_at.ensures.roster, opened.0) at c.hand_out-own.ensures.handed in
     let past = c.event.ensures.event
@@ -216,7 +213,7 @@ returns-clause-performs g c =
     c.requires.seat ∙ ap Some (sym c.index-place.ensures) in
     let up = sym c.is_down.ensures ∙ c.if-is_down.false in
     let opened = c.if-not-open.ensures.kernel_view in
-    let wide : length (kernel_view c.self.inside.seat).lines ≡ g.K.Tie.names.cells.slots = c.self.inside.seat.knows.1
+    let wide : length (kernel_view c.self.inside.seat).lines ≡ g.K.Tie.names.cells.slots = wide_lines c.self.inside.seat
     ∙ ap (λ z. z.slots) c.self.invariant.0 in
     let past = c.event.ensures.event
     ∙ ap (λ x. with_event c.args.scratch.now.seat.thread (g.L.Log.noted c.note.new.self) x.items
@@ -246,3 +243,29 @@ pub make_at-requires-clause-seat : goal.make_at-requires-clause-seat
 make_at-requires-clause-seat g c =
     seat_at_place _ c.args.scratch.now.seat
     (ap (λ ts. place ts c.args.scratch.now.seat.thread) c.self.invariant.2.threads_are ∙ c.requires.seat)
+
+pub hand_out-own-requires-clause-seen : goal.hand_out-own-requires-clause-seen
+hand_out-own-requires-clause-seen g c = c.look-2.ensures.name ∙ c.look.ensures.name ∙ c.requires.seen
+    ∙ sym c.requires.cells.1.1
+
+pub hand_out-own-requires-clause-arrive : goal.hand_out-own-requires-clause-arrive
+hand_out-own-requires-clause-arrive g c =
+    let event : AnswersAtTraces c.self.inside.kernel c.args.scratch.now.seat.thread c.args.call
+    c.make_at.new.completions.items c.make_at.new.kernel = c.make_at.ensures.event in
+    let at : place (threads_of g.K.Tie.names.roster) c.args.scratch.now.seat.thread ≡ Some c.index-place.result =
+    c.requires.seat ∙ ap Some (sym c.index-place.ensures) in
+    let up = sym c.is_down.ensures ∙ c.if-is_down.false in
+    let opened = c.if-not-open.ensures.kernel_view in
+    let wide : length (kernel_view c.self.inside.seat).lines ≡ g.K.Tie.names.cells.slots =
+    wide_lines c.self.inside.seat ∙ ap (λ z. z.slots) c.self.invariant.0 in
+    let t = c.args.scratch.now.seat.thread in
+    let X = c.make_at.new.completions.items in
+    let seen = c.look-2.ensures.seen ∙ c.add.ensures.past
+    ∙ ap (λ u. with_event u c.of-asking.result.value c.deref-2.result.now.items c.look.new.self.trace)
+    c.thread-thread.ensures ∙ ap (λ k. with_event t k c.deref-2.result.now.items c.look.new.self.trace)
+    c.of-asking.ensures ∙ ap (λ x. with_event t c.args.call x.items c.look.new.self.trace) c.deref-2.ensures
+    ∙ ap (λ h. with_event t c.args.call X h.trace) c.look.ensures.same
+    ∙ ap (λ p. with_event t c.args.call X p) c.self.invariant.3.1 in
+    rw (c.requires.cells.1.0, c.make_at.ensures.roster, opened.0, seen)
+    (may_arrive _ _ _ _ _ _ c.self.invariant.2 c.args.scratch.now.seat.thread c.index-place.result at up opened.1 wide
+    c.in_default.ensures.few c.args.call c.make_at.new.completions.items c.make_at.new.kernel event)

@@ -1,0 +1,20 @@
+use Rattle.balsaeuchre_examples.proofs.Common.{ap, sym}
+use Rattle.balsaeuchre.proofs.SeenCompletions.{awaited_as, gives_as}
+use Rattle.balsaeuchre.specs.Delivered.{taken}
+use Rattle.balsaeuchre.specs.Due.{collected}
+use Rattle.balsaeuchre_examples.proofs.Told.{if_made, met_after}
+use Rattle.balsaeuchre_examples.proofs.stored.get.Goals as goal
+
+pub returns : goal.returns
+returns g c =
+    let l = c.learn.ensures in
+    if_made c.msg_send.result c.msg_send.ensures.came (λ came. (
+      came.0,
+      came.1,
+      rw (sym l.same.0, sym (ap (λ a. a.calls) l.same.1))
+          (met_after c.args.note.now.seen c.completions_in_real_time.ensures l.own l.others
+          came.2),
+      came.3,
+      gives_as came.0 _ _ _ _ _ (λ i. collected (l.same.4 i).trace (l.same.0 i) (taken (l.same.2 i)))
+          (awaited_as _ l.same.0 (ap (λ a. a.calls) l.same.1)) came.4,
+    ))
