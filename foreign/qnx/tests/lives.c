@@ -24,9 +24,21 @@ static void *serve(void *argument) {
     }
 }
 
+static int taken(void) {
+    int count = 0;
+    for (int tid = 1; tid <= 60; tid++) count += neutrino_state(tid) != -1;
+    return count;
+}
+
 static void ask_once(int number, int round) {
     uint8_t sent[4] = {(uint8_t)number, (uint8_t)round, (uint8_t)(round >> 8), 5}, back[8] = {0};
-    check(MsgSend(coid, sent, 4, back, 8) == sent[2]);
+    long status = MsgSend(coid, sent, 4, back, 8);
+    if (status != sent[2]) {
+        int error = errno;
+        fprintf(stderr, "MsgSend returned %ld, not %d; %d places are taken\n", status, sent[2], taken());
+        errno = error;
+    }
+    check(status == sent[2]);
     check(back[0] == sent[0] && (back[1] ^ sent[1]) == 0xff && back[3] == 5 && back[4] == 0);
 }
 
@@ -66,12 +78,6 @@ void lives(void) {
     }
     check(atomic_load(&answered) == 5 * rounds / AT_ONCE * AT_ONCE);
     stop(servers, 2);
-}
-
-static int taken(void) {
-    int count = 0;
-    for (int tid = 1; tid <= 60; tid++) count += neutrino_state(tid) != -1;
-    return count;
 }
 
 /* Starts more threads at once than there are places: the others wait. The servers reply to no message before
