@@ -5,19 +5,21 @@ ghost use Rattle.qdemo_serve.specs.Fit.{Fit};
 use crate::files::RecordFiles;
 use qdemo_commands::command::ServeRun;
 use qdemo_commands::completion::{end_failed, end_quietly, end_unwritten, end_with};
+use qdemo_commands::json::numbers_line;
 use qdemo_commands::streams::Outlet;
-use qdemo_commands::summary::{json_of, with_units};
+use qdemo_commands::summary::with_units;
 use qdemo_serve::fault::ServeFault;
 use qdemo_serve::recording::{Forget, RecordStore};
-use qdemo_serve::serve::serve;
+use qdemo_serve::serve::{lines_of, serve, write_results};
 use qdemo_serve::settings::Settings;
+use qdemo_serve::texts::Totals;
 use qscript::watched::Watched;
-use std::alloc::AllocError;
+use std::alloc::{AllocError, Global};
+use std::io;
 use std::process::ExitCode;
 use std::rt::{Clock, Files};
 use std::sync::Wait;
 use std::thread::Threads;
-use std::{io, str};
 
 /// Runs a server and its clients, and records the calls if the recording has a name. Shows progress on a
 /// terminal, unless `quiet` is set.
@@ -61,13 +63,10 @@ fn serve_with<R: Print + Eprint + AllocGlobal + Threads + Wait + Clock + Sync, S
 ) -> ExitCode
     requires { Fit settings }
 {
-    if json || settings.time {
-        return serve_in_words(rt, settings, json, store);
-    }
-    let mut writer = Watched::new(Outlet::new(io::writer(rt)));
-    match serve(rt, rt.alloc(), settings, store, &mut writer) {
-        Ok(()) => ExitCode::SUCCESS,
-        Err(ServeFault::Write) if writer.into_inner().is_closed() => end_quietly(),
+    match serve(rt, rt.alloc(), settings, store) {
+        Ok(totals) if json => print_results(rt, json_of(rt.alloc(), &totals)),
+        Ok(totals) if settings.time => print_results(rt, timed_of(rt.alloc(), &totals)),
+        Ok(totals) => print_lines(rt, &totals),
         Err(fault) => end_served(rt, fault),
     }
 }
@@ -80,31 +79,50 @@ fn end_served(rt: &impl Eprint, fault: ServeFault) -> ExitCode {
     }
 }
 
-/// Runs a server and its clients, stores their recording, and prints the results with units, or as JSON.
-fn serve_in_words<R: Print + Eprint + AllocGlobal + Threads + Wait + Clock + Sync, S: RecordStore>(
-    rt: &R,
-    settings: Settings,
-    json: bool,
-    store: &mut S,
-) -> ExitCode
-    requires { Fit settings }
-{
-    let mut writer = Watched::new(Vec::new(rt.alloc()));
-    match serve(rt, rt.alloc(), settings, store, &mut writer) {
-        Ok(()) => print_lines(rt, writer.into_inner().as_slice(), json),
-        Err(ServeFault::Write) => end_failed(rt, "out of memory"),
+/// Prints the lines of results.
+fn print_lines<R: Print + Eprint + AllocGlobal>(rt: &R, totals: &Totals) -> ExitCode {
+    let mut writer = Watched::new(Outlet::new(io::writer(rt)));
+    match write_results(rt.alloc(), totals, &mut writer) {
+        Ok(()) => ExitCode::SUCCESS,
+        Err(ServeFault::Write) if writer.into_inner().is_closed() => end_quietly(),
         Err(fault) => end_served(rt, fault),
     }
 }
 
-/// Prints the lines of a run with units, or as JSON.
-fn print_lines<R: Print + Eprint + AllocGlobal>(rt: &R, lines: &[u8], json: bool) -> ExitCode {
-    let lines = str::from_utf8(lines).unwrap_or("");
-    let text: Result<String, AllocError> = if json {
-        json_of(rt.alloc(), lines)
-    } else {
-        with_units(rt.alloc(), lines)
-    };
+/// Returns the lines of results with units.
+fn timed_of(alloc: Global, totals: &Totals) -> Result<String, AllocError> {
+    let lines = lines_of(alloc, totals)?;
+    with_units(alloc, lines.as_str())
+}
+
+/// Returns the results as a line of JSON.
+fn json_of(alloc: Global, totals: &Totals) -> Result<String, AllocError> {
+    let tally = totals.tally;
+    let mut numbers = Vec::new(alloc);
+    numbers.extend_from_slice(&[
+        ("sent", tally.sent),
+        ("answered", tally.answered),
+        ("pulses", tally.pulses),
+        ("sum", tally.sum),
+        ("events", totals.events as u64),
+    ])?;
+    if let Some(timing) = totals.timing {
+        numbers.extend_from_slice(&[
+            ("run_nanoseconds", timing.run),
+            ("round_trips_per_second", timing.rate()),
+            ("least_nanoseconds", timing.least),
+            ("median_nanoseconds", timing.median),
+            ("ninety_ninth_nanoseconds", timing.ninety_ninth),
+        ])?;
+    }
+    numbers_line(alloc, numbers.as_slice())
+}
+
+/// Prints the results.
+fn print_results<R: Print + Eprint + AllocGlobal>(
+    rt: &R,
+    text: Result<String, AllocError>,
+) -> ExitCode {
     let Ok(text) = text else {
         return end_failed(rt, "out of memory");
     };

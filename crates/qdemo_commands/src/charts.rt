@@ -1,7 +1,10 @@
-//! Unproved: words and layout. Draws the run of a script, into a file or on standard output.
+//! Unproved: words and layout. Draws the run of a script, or the run that shows the fault of a design, into a
+//! file or on standard output.
 
 use crate::command::ChartRun;
 use crate::completion::{ExitResult, end_unread, end_with, print_text, text_of};
+use crate::designs::is_design;
+use crate::designs::picture::{Drawing, design_drawing};
 use crate::names::{is_named, named_of};
 use crate::remarks::FaultSource;
 use qscript_chart::drawing::{drawing, drawing_of};
@@ -11,7 +14,8 @@ use std::fs;
 use std::process::ExitCode;
 use std::rt::Files;
 
-/// Draws the run of a script, from a file or from standard input. A drawing is never written over its script.
+/// Draws the run of a script or of a design, from a file or from standard input. A drawing is never written
+/// over its script.
 pub fn run_chart<R: Files + Input + Print + Eprint + AllocGlobal>(
     rt: &R,
     run: &ChartRun,
@@ -29,12 +33,12 @@ pub fn run_chart<R: Files + Input + Print + Eprint + AllocGlobal>(
     let text = text_of(rt, file)?;
     let text = text.as_slice();
     let view = view_of(run);
-    let drawn = if run.names_in || file.is_some_and(is_named) {
-        let source = FaultSource::new(file, text, false, run.screen.colours.errors);
-        let NamedScript { script, check, .. } = named_of(rt, source)?;
-        drawing_of(check.context(), script, &view)
-    } else {
-        drawing(rt.alloc(), text, &view)
+    let source = FaultSource::new(file, text, false, run.screen.colours.errors);
+    let drawn = match file {
+        Some(file) if is_design(file) => design_drawing(rt, run.screen, source, &view)?,
+        Some(file) if is_named(file) => named_drawing(rt, source, &view)?,
+        _ if run.names_in => named_drawing(rt, source, &view)?,
+        _ => drawing(rt.alloc(), text, &view),
     };
     let drawn = drawn.map_err(|fault| end_with(rt, format_args!("{fault}"), fault.status()))?;
     match run.output.as_deref() {
@@ -45,6 +49,16 @@ pub fn run_chart<R: Files + Input + Print + Eprint + AllocGlobal>(
         }
     }
     Ok(ExitCode::SUCCESS)
+}
+
+/// Draws the run of a script with names.
+fn named_drawing<R: Eprint + AllocGlobal>(
+    rt: &R,
+    source: FaultSource<'_>,
+    view: &ChartView,
+) -> Result<Drawing, ExitCode> {
+    let NamedScript { script, check, .. } = named_of(rt, source)?;
+    Ok(drawing_of(check.context(), script, view))
 }
 
 /// Returns whether two paths lead to the same existing file.

@@ -2,6 +2,7 @@
 
 mod counts;
 mod places;
+mod report;
 
 use crate::colours::{Mood, marks};
 use crate::command::CheckRun;
@@ -9,7 +10,8 @@ use crate::completion::{end_unwritten, tell_unread};
 use crate::designs::{is_design, words_of};
 use crate::difference::{Difference, difference_of, without_returns};
 use crate::example::{ExampleOutcome, outcome_of, printed};
-use crate::json::quoted;
+use crate::json::faults::{faults_in, faults_told};
+use crate::json::push_line;
 use crate::names::{faults_of, is_named};
 use counts::CheckCounts;
 use places::Example;
@@ -17,6 +19,8 @@ use qscript::fault::ScriptFault;
 use qscript_explain::faults::faults;
 use qscript_text::parts::{Lines, call_lines};
 use qscript_text::place::Fault;
+use report::{ExampleReport, Origin};
+use std::alloc::{AllocError, Global};
 use std::fmt::Display;
 use std::path::Path;
 use std::process::ExitCode;
@@ -80,21 +84,24 @@ impl<R: Files + Print + Eprint + AllocGlobal + Clone + Drop> CheckRunner<'_, R> 
     /// Runs a script with names, and prints the differences from its expectations.
     fn check_named(&mut self, example: &Example, text: &[u8]) -> io::Result<()> {
         let faults = faults_of(self.rt.alloc(), text)?;
-        let name = example.name.as_str();
         if faults.is_empty() {
-            return self.tell(name, "same", "as it expects");
+            return self.tell_words(example, "same", "as it expects");
         }
-        self.tell(name, "differs", "not as it expects")?;
-        self.tell_places(example, faults.as_slice())
+        self.tell_faults(example, "differs", "not as it expects", faults.as_slice())
     }
 
-    /// Prints faults of an example, each with its place.
-    fn tell_places(&self, example: &Example, faults: &[Fault]) -> io::Result<()> {
-        let script = &example.script;
-        for fault in faults {
-            self.tell_more(format_args!("  {script}:{fault}"))?;
-        }
-        Ok(())
+    /// Reports an outcome of an example, and faults of its text.
+    fn tell_faults<K: Display>(
+        &mut self,
+        example: &Example,
+        outcome: &'static str,
+        words: &str,
+        faults: &[Fault<K>],
+    ) -> io::Result<()> {
+        let alloc = self.rt.alloc();
+        let mut report = ExampleReport::new(alloc, outcome, words)?;
+        report.faults = faults_in(alloc, faults)?;
+        self.tell(example, &report)
     }
 
     /// Explores a design, and compares the output of the search with its verdict.
@@ -104,15 +111,12 @@ impl<R: Files + Print + Eprint + AllocGlobal + Clone + Drop> CheckRunner<'_, R> 
         let file = Path::new(name).file_name().unwrap_or(name);
         let words = match words_of(self.rt.alloc(), file, text)? {
             Ok(words) => words,
-            Err(faults) => {
-                self.tell(name, "faulty", "faulty")?;
-                return self.tell_places(example, faults.as_slice());
-            }
+            Err(faults) => return self.tell_faults(example, "faulty", "faulty", faults.as_slice()),
         };
         let words = words.as_str().as_bytes();
         match self.expected(example) {
             Ok(Some(verdict)) if verdict.as_slice() == words => self.tell_same(example),
-            Ok(verdict) => self.settle(example, words, verdict).map(|_| ()),
+            Ok(verdict) => self.settle(example, text, words, verdict),
             Err(error) => self.count_unread(example.trace.as_str(), error),
         }
     }
@@ -134,10 +138,7 @@ impl<R: Files + Print + Eprint + AllocGlobal + Clone + Drop> CheckRunner<'_, R> 
         match outcome {
             ExampleOutcome::Same => self.tell_same(example),
             ExampleOutcome::Fault(fault) => self.tell_fault(example, text, fault),
-            ExampleOutcome::Differs(found) => match self.settle(example, found.as_slice(), trace)? {
-                Some(difference) => self.tell_origin(text, &difference),
-                None => Ok(()),
-            },
+            ExampleOutcome::Differs(found) => self.settle(example, text, found.as_slice(), trace),
         }
     }
 
@@ -152,109 +153,108 @@ impl<R: Files + Print + Eprint + AllocGlobal + Clone + Drop> CheckRunner<'_, R> 
 
     /// Reports that an example printed its expected output.
     fn tell_same(&mut self, example: &Example) -> io::Result<()> {
-        let Example { name, what, .. } = example;
-        self.tell(name.as_str(), "same", format_args!("as its {what} says"))
+        let words = format!(in self.rt.alloc(); "as its {} says", example.what)?;
+        self.tell_words(example, "same", words.as_str())
     }
 
-    /// Counts the outcome of an example, and prints it: in words, or as an object of JSON that also has the
-    /// outcome.
-    fn tell<D: Display + Drop>(&mut self, name: &str, outcome: &str, words: D) -> io::Result<()> {
-        self.tally.add(outcome);
-        if !self.run.json {
-            let mood = match outcome {
+    /// Reports an outcome of an example in these words.
+    fn tell_words(
+        &mut self,
+        example: &Example,
+        outcome: &'static str,
+        words: &str,
+    ) -> io::Result<()> {
+        let report = ExampleReport::new(self.rt.alloc(), outcome, words)?;
+        self.tell(example, &report)
+    }
+
+    /// Counts the outcome of an example, and prints its report: in words, or as an object of JSON.
+    fn tell(&mut self, example: &Example, report: &ExampleReport) -> io::Result<()> {
+        self.tally.add(report.outcome);
+        let alloc = self.rt.alloc();
+        let mut text = String::new(alloc);
+        if self.run.json {
+            push_line(&mut text, &report.record(alloc, example)?)?;
+        } else {
+            let mood = match report.outcome {
                 "differs" | "faulty" => Mood::Bad,
                 "without" => Mood::Unsure,
                 _ => Mood::Good,
             };
-            let (begin, end) = marks(mood, self.run.screen.colours.output);
-            return println!(self.rt; "{name}: {begin}{words}{end}");
+            report.push_words(
+                &mut text,
+                example,
+                marks(mood, self.run.screen.colours.output),
+            )?;
         }
-        let alloc = self.rt.alloc();
-        let name = quoted(alloc, name)?;
-        let words = format!(in alloc; "{words}")?;
-        let words = quoted(alloc, words.as_str())?;
-        println!(self.rt; "{{\"name\": {name}, \"outcome\": \"{outcome}\", \"words\": {words}}}")
-    }
-
-    /// Prints lines about the outcome of an example. With JSON they are one object.
-    fn tell_more<D: Display + Drop>(&self, words: D) -> io::Result<()> {
-        if !self.run.json {
-            return println!(self.rt; "{words}");
-        }
-        let words = format!(in self.rt.alloc(); "{words}")?;
-        let words = quoted(self.rt.alloc(), words.as_str().trim())?;
-        println!(self.rt; "{{\"more\": {words}}}")
+        print!(self.rt; "{text}")
     }
 
     /// Writes the output of an example over its expected output, if an update is requested. Otherwise reports
-    /// and returns the difference, or reports that there is no expected output.
+    /// the difference, or that there is no expected output.
     fn settle(
         &mut self,
         example: &Example,
+        text: &[u8],
         found: &[u8],
         expected: Option<Vec<u8>>,
-    ) -> io::Result<Option<Difference>> {
-        let Example { what, .. } = example;
-        let (name, trace) = (example.name.as_str(), example.trace.as_str());
+    ) -> io::Result<()> {
+        let alloc = self.rt.alloc();
+        let Example { what, trace, .. } = example;
         if self.run.update {
-            match fs::write(self.rt, trace, found) {
-                Ok(()) => self.tell(name, "written", format_args!("{what} written"))?,
-                Err(error) => self.count_unread(trace, error)?,
-            }
-            return Ok(None);
+            return match fs::write(self.rt, trace.as_str(), found) {
+                Ok(()) => {
+                    let words = format!(in alloc; "{what} written")?;
+                    self.tell_words(example, "written", words.as_str())
+                }
+                Err(error) => self.count_unread(trace.as_str(), error),
+            };
         }
-        let Some(expected) = expected else {
-            self.tell(name, "without", format_args!("no {what}"))?;
-            return Ok(None);
-        };
-        let difference = difference_of(self.rt.alloc(), found, expected.as_slice())?;
-        let words = format_args!("differs from its {what} at line {}", difference.line);
-        self.tell(name, "differs", words)?;
-        self.tell_more(format_args!("{difference}"))?;
-        Ok(Some(difference))
-    }
-
-    /// Prints the line of a script from which a difference comes, if it is about a call.
-    fn tell_origin(&self, script: &[u8], difference: &Difference) -> io::Result<()> {
-        let lines = call_lines(self.rt.alloc(), script)?;
-        let call = difference.call();
-        let at = call.map(|call| call.saturating_sub(1) as usize);
-        let Some(number) = at.and_then(|at| lines.get(at)) else {
-            return Ok(());
-        };
-        let line = Lines(script).nth(number.saturating_sub(1)).unwrap_or(&[]);
-        let mut shown = String::new(self.rt.alloc());
-        for byte in line.iter().take(MOST_SHOWN) {
-            match *byte {
-                0x20..=0x7e => shown.push(*byte as char)?,
-                _ => shown.push(' ')?,
+        match expected {
+            Some(expected) => {
+                let difference = difference_of(alloc, found, expected.as_slice())?;
+                self.tell_difference(example, text, difference)
+            }
+            None => {
+                let words = format!(in alloc; "no {what}")?;
+                self.tell_words(example, "without", words.as_str())
             }
         }
-        let dots = if line.len() > MOST_SHOWN { ".." } else { "" };
-        self.tell_more(format_args!("  script: line {number}: {shown}{dots}"))
     }
 
-    /// Prints why a script has no run: each faulty line with its place, and explained if explanations are
+    /// Reports the first difference of an example from its expected output, with the line of a script from
+    /// which it comes.
+    fn tell_difference(
+        &mut self,
+        example: &Example,
+        text: &[u8],
+        difference: Difference,
+    ) -> io::Result<()> {
+        let alloc = self.rt.alloc();
+        let line = difference.line;
+        let words = format!(in alloc; "differs from its {} at line {line}", example.what)?;
+        let mut report = ExampleReport::new(alloc, "differs", words.as_str())?;
+        if !is_design(example.script.as_str()) {
+            report.origin = origin_of(alloc, text, &difference)?;
+        }
+        report.difference = Some(difference);
+        self.tell(example, &report)
+    }
+
+    /// Reports why a script has no run: each faulty line with its place, and explained if explanations are
     /// requested.
     fn tell_fault(&mut self, example: &Example, text: &[u8], fault: ScriptFault) -> io::Result<()> {
         if fault.status() == 3 {
             return Err(io::Error::from(io::ErrorKind::OutOfMemory));
         }
-        let Example { name, script, .. } = example;
+        let alloc = self.rt.alloc();
         let ScriptFault::Line { .. } = fault else {
-            return self.tell(name.as_str(), "faulty", format_args!("{fault}"));
+            let words = format!(in alloc; "{fault}")?;
+            return self.tell_words(example, "faulty", words.as_str());
         };
-        self.tell(name.as_str(), "faulty", "faulty")?;
-        for remark in &faults(self.rt.alloc(), text)? {
-            let (line, column) = (remark.line, remark.explanation.column);
-            if let Some(fault) = remark.fault {
-                self.tell_more(format_args!("  {script}:{line}:{column}: {fault}"))?;
-            }
-            if self.run.explain {
-                self.tell_more(remark.explanation.text.as_str())?;
-            }
-        }
-        Ok(())
+        let mut report = ExampleReport::new(alloc, "faulty", "faulty")?;
+        report.faults = faults_told(alloc, faults(alloc, text)?.as_slice(), self.run.explain)?;
+        self.tell(example, &report)
     }
 
     /// Reports a file or folder that can't be read or written, and counts it.
@@ -266,4 +266,38 @@ impl<R: Files + Print + Eprint + AllocGlobal + Clone + Drop> CheckRunner<'_, R> 
         self.tally.add("unread");
         Ok(())
     }
+}
+
+/// Returns the line of a script from which a difference comes, if it is about a call.
+fn origin_of(
+    alloc: Global,
+    script: &[u8],
+    difference: &Difference,
+) -> Result<Option<Origin>, AllocError> {
+    let lines = call_lines(alloc, script)?;
+    let call = difference.call();
+    let at = call.map(|call| call.saturating_sub(1) as usize);
+    let Some(number) = at.and_then(|at| lines.get(at)) else {
+        return Ok(None);
+    };
+    let line = Lines(script).nth(number.saturating_sub(1)).unwrap_or(&[]);
+    Ok(Some(Origin {
+        line: *number,
+        text: shown_part(alloc, line)?,
+    }))
+}
+
+/// Returns the first bytes of a line for display. A byte that isn't printable is a space.
+fn shown_part(alloc: Global, line: &[u8]) -> Result<String, AllocError> {
+    let mut shown = String::new(alloc);
+    for byte in line.iter().take(MOST_SHOWN) {
+        match *byte {
+            0x20..=0x7e => shown.push(*byte as char)?,
+            _ => shown.push(' ')?,
+        }
+    }
+    if line.len() > MOST_SHOWN {
+        shown.push_str("..")?;
+    }
+    Ok(shown)
 }

@@ -52,7 +52,7 @@ pub struct PlayRun {
     pub screen: Screen,
 }
 
-/// A script whose run is drawn.
+/// A script or a design whose run is drawn.
 #[derive(Drop)]
 pub struct ChartRun {
     /// Its file; `None` for standard input.
@@ -67,7 +67,7 @@ pub struct ChartRun {
     pub names_in: bool,
     /// The number of the first call that is drawn, at least 1.
     pub from: u32,
-    /// The number of the last call that is drawn. With `None` the drawing ends with the script.
+    /// The number of the last call that is drawn. With `None` the drawing ends with the run.
     pub to: Option<u32>,
     /// The outputs; if standard output is a terminal, a drawing on it is always text.
     pub screen: Screen,

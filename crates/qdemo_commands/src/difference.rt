@@ -13,6 +13,16 @@ pub struct Difference {
 }
 
 impl Difference {
+    /// Returns the line as it was found.
+    pub fn found(&self) -> &str {
+        self.found.as_str()
+    }
+
+    /// Returns the line as it was expected.
+    pub fn expected(&self) -> &str {
+        self.expected.as_str()
+    }
+
     /// Returns the number of the call that the found line is about. If that line has no number, returns the
     /// number in the expected line.
     pub fn call(&self) -> Option<u64> {

@@ -2,9 +2,13 @@
 
 use crate::command::ScriptRun;
 use crate::completion::{ExitResult, end_failed, print_text, text_of};
+use crate::json::events::{EventWriter, push_blocked};
+use crate::json::faults::{faults_in, lines_of};
+use crate::json::names::{LabelPlaces, ScriptLabels};
+use crate::json::push_line;
 use crate::remarks::FaultSource;
-use crate::scripts::print_trace;
 use qscript_explain::report::{ReportedRun, RunReport};
+use qscript_names::names_fault::NamesFault;
 use qscript_names::{NamedReading, NamedScript, read};
 use qscript_text::place::Fault;
 use std::alloc::{AllocError, Global};
@@ -15,6 +19,28 @@ use std::rt::Files;
 /// Returns whether a file has a script with names, judged by its name.
 pub fn is_named(file: &str) -> bool {
     file.ends_with(".names")
+}
+
+/// The form in which a run is printed.
+#[derive(Clone, Copy, PartialEq, Eq)]
+enum RunForm {
+    /// The trace, with numbers.
+    Plain,
+    /// The trace, with names.
+    Names,
+    /// An object of JSON for each event and each blocked thread.
+    Json,
+}
+
+impl RunForm {
+    /// Returns the requested form.
+    fn of(run: &ScriptRun) -> RunForm {
+        match (run.json, run.names) {
+            (true, _) => RunForm::Json,
+            (false, true) => RunForm::Names,
+            (false, false) => RunForm::Plain,
+        }
+    }
 }
 
 /// Returns the script with names of a source; the program ends if it is faulty.
@@ -39,11 +65,20 @@ pub fn run_named<R: Files + Input + Print + Eprint + AllocGlobal>(
     let text = text_of(rt, file)?;
     let shows = run.explain || run.screen.errors;
     let source = FaultSource::new(file, text.as_slice(), shows, run.screen.colours.errors);
-    let mut named = named_of(rt, source)?;
+    let mut named = match read(rt.alloc(), source.text) {
+        Ok(NamedReading::Good(named)) => named,
+        Ok(NamedReading::Faulty(faults)) => return Err(end_named(
+            rt,
+            run,
+            source,
+            faults.as_slice(),
+        )),
+        Err(_) => return Err(end_failed(rt, "out of memory")),
+    };
     if run.plain {
         return print_text(rt, named.text.as_str()).map(|()| ExitCode::SUCCESS);
     }
-    match outcome_of(rt.alloc(), &mut named, run.names && !run.json) {
+    match outcome_of(rt.alloc(), &mut named, RunForm::of(run)) {
         Ok(outcome) => print_outcome(rt, run, source, &outcome),
         Err(_) => Err(end_failed(rt, "out of memory")),
     }
@@ -56,33 +91,64 @@ fn print_outcome<R: Print + Eprint + AllocGlobal>(
     source: FaultSource<'_>,
     (trace, report, faults): &NamedOutcome,
 ) -> ExitResult {
-    print_trace(rt, run, trace.as_str())?;
+    print_text(rt, trace.as_str())?;
     if run.explain {
         let _ = source.tell_report(rt, report);
     }
     if faults.is_empty() {
         return Ok(ExitCode::SUCCESS);
     }
-    Err(source.end_faulty(rt, faults.as_slice()))
+    Err(end_named(rt, run, source, faults.as_slice()))
 }
 
-/// The outcome of a script with names: its trace, the report on its run, and the differences from its
-/// expectations.
-type NamedOutcome = (String, RunReport, Vec<Fault>);
+/// Ends the program for these faults of a script with names, and prints them. With `--json` they are also
+/// printed as objects.
+fn end_named<R: Print + Eprint + AllocGlobal>(
+    rt: &R,
+    run: &ScriptRun,
+    source: FaultSource<'_>,
+    faults: &[Fault<NamesFault>],
+) -> ExitCode {
+    if run.json
+        && let Err(code) = print_faults(rt, faults)
+    {
+        return code;
+    }
+    source.end_faulty(rt, faults)
+}
 
-/// Runs a script with names once, and returns its outcome. The trace has the names if `in_names` is set.
+/// Prints faults as lines of JSON.
+fn print_faults<R: Print + Eprint + AllocGlobal>(
+    rt: &R,
+    faults: &[Fault<NamesFault>],
+) -> Result<(), ExitCode> {
+    let faults = faults_in(rt.alloc(), faults);
+    let lines = faults.and_then(|faults| lines_of(rt.alloc(), faults.as_slice()));
+    let lines = lines.map_err(|_| end_failed(rt, "out of memory"))?;
+    print_text(rt, lines.as_str())
+}
+
+/// The outcome of a script with names: its printed run, the report on its run, and the differences from its
+/// expectations.
+type NamedOutcome = (String, RunReport, Vec<Fault<NamesFault>>);
+
+/// Runs a script with names once, and returns its outcome, with the run in this form.
 fn outcome_of(
     alloc: Global,
     named: &mut NamedScript,
-    in_names: bool,
+    form: RunForm,
 ) -> Result<NamedOutcome, AllocError> {
     let calls = named.check.calls.iter();
     let lines = calls.map(|call| call.place.line as usize).collect(alloc)?;
     let mut run = ReportedRun::new(alloc, &named.script, lines)?;
     let mut told = String::new(alloc);
-    let faults = make_all(&mut run, named, &mut told, in_names)?;
+    let faults = match form {
+        RunForm::Json => record_all(&mut run, named, &mut told),
+        form => make_all(&mut run, named, &mut told, form == RunForm::Names),
+    }?;
     let (plain, report) = run.finish(named.check.context())?;
-    Ok((if in_names { told } else { plain }, report, faults))
+    let printed = if form == RunForm::Plain { plain } else { told };
+    Ok((printed, report, faults))
 }
 
 /// Makes the calls of a script with names, and returns the differences from its expectations. Adds the trace
@@ -92,7 +158,7 @@ fn make_all(
     named: &mut NamedScript,
     trace: &mut String,
     in_names: bool,
-) -> Result<Vec<Fault>, AllocError> {
+) -> Result<Vec<Fault<NamesFault>>, AllocError> {
     let NamedScript { script, check, .. } = named;
     let alloc = check.context().alloc;
     check.compare_states(Some(run.run().kernel()))?;
@@ -109,12 +175,37 @@ fn make_all(
     check.take_faults()
 }
 
+/// Makes the calls of a script with names, and returns the differences from its expectations. Adds the events
+/// and the blocked threads as lines of JSON.
+fn record_all(
+    run: &mut ReportedRun,
+    named: &mut NamedScript,
+    out: &mut String,
+) -> Result<Vec<Fault<NamesFault>>, AllocError> {
+    let NamedScript { script, check, .. } = named;
+    let alloc = check.context().alloc;
+    let labels = LabelPlaces::of(alloc, &check.scope)?;
+    let mut events = EventWriter::new(alloc);
+    check.compare_states(Some(run.run().kernel()))?;
+    for (thread, call) in mem::replace(&mut script.calls, Vec::new(alloc)) {
+        let event = events.begin(thread, &call, &ScriptLabels::of(check, &labels))?;
+        run.make(check.context(), thread, call)?;
+        let completions = run.run().completions();
+        let event = events.end(event, completions, &ScriptLabels::of(check, &labels))?;
+        push_line(out, &event)?;
+        check.follow(run.run().kernel(), completions)?;
+    }
+    check.finish(run.run().kernel())?;
+    push_blocked(out, run, &ScriptLabels::of(check, &labels))?;
+    check.take_faults()
+}
+
 /// Returns the faults of a script with names. If there are none, returns the differences of its run from its
 /// expectations.
-pub fn faults_of(alloc: Global, text: &[u8]) -> Result<Vec<Fault>, AllocError> {
+pub fn faults_of(alloc: Global, text: &[u8]) -> Result<Vec<Fault<NamesFault>>, AllocError> {
     match read(alloc, text)? {
         NamedReading::Good(mut named) => {
-            let (_, _, faults) = outcome_of(alloc, &mut named, false)?;
+            let (_, _, faults) = outcome_of(alloc, &mut named, RunForm::Plain)?;
             Ok(faults)
         }
         NamedReading::Faulty(faults) => Ok(faults),

@@ -2,6 +2,7 @@
 //! command, and is answered at once.
 
 mod command;
+mod fault;
 pub mod transcript;
 
 use crate::command::PlayRun;
@@ -9,9 +10,11 @@ use crate::completion::{end_failed, end_unwritten, tell_failed, tell_fault, tell
 use crate::names::is_named;
 use crate::remarks::FaultSource;
 use command::{PlayCommand, order_of};
+use fault::PlayFault;
 use qscript::fault::{LineFault, ScriptFault};
 use qscript_explain::explain;
 use qscript_explain::faults::oddities;
+use qscript_names::names_fault::NamesFault;
 use qscript_text::place::Fault;
 use std::alloc::AllocError;
 use std::io::{BufRead, BufReader, Write};
@@ -115,7 +118,7 @@ impl<R: Files + Input + Print + Eprint + AllocGlobal> Play<'_, R> {
 
     /// Reports faults of a script with names. Their places are in `text`, the text of a file or the lines
     /// read so far.
-    fn tell_faults(&mut self, faults: &[Fault], file: Option<&str>, text: &[u8]) {
+    fn tell_faults(&mut self, faults: &[Fault<NamesFault>], file: Option<&str>, text: &[u8]) {
         self.faulty = self.faulty || !faults.is_empty();
         let source = FaultSource::new(file, text, self.terminal, self.colours);
         source.tell_faults(self.rt, faults);
@@ -155,7 +158,7 @@ impl<R: Files + Input + Print + Eprint + AllocGlobal> Play<'_, R> {
             }
             PlayCommand::Undo => self.undo()?,
             PlayCommand::Save(name) => self.save(name),
-            PlayCommand::Words => self.refuse("expected no word after state, undo, help or quit"),
+            PlayCommand::Words => self.refuse(PlayFault::ExtraWord),
             PlayCommand::Line => self.take(line)?,
         }
         Ok(true)
@@ -164,7 +167,7 @@ impl<R: Files + Input + Print + Eprint + AllocGlobal> Play<'_, R> {
     /// Removes the last line, and prints it.
     fn undo(&mut self) -> io::Result<()> {
         let Some(line) = self.sheet.undo()? else {
-            self.refuse("there is no line to undo");
+            self.refuse(PlayFault::NothingToUndo);
             return Ok(());
         };
         self.print(b"undo ")?;
@@ -173,7 +176,7 @@ impl<R: Files + Input + Print + Eprint + AllocGlobal> Play<'_, R> {
     }
 
     /// Reports that the action of a line can't be done.
-    fn refuse(&mut self, why: &str) {
+    fn refuse(&mut self, why: PlayFault) {
         self.faulty = true;
         if self.terminal {
             tell_fault(self.rt, self.colours, why);
@@ -187,7 +190,7 @@ impl<R: Files + Input + Print + Eprint + AllocGlobal> Play<'_, R> {
     fn save(&mut self, name: &[u8]) {
         let name = match str::from_utf8(name) {
             Ok(name) if !name.is_empty() => name,
-            _ => return self.refuse("expected 'save FILE'"),
+            _ => return self.refuse(PlayFault::NoFile),
         };
         if let Err(error) = fs::write(self.rt, name, self.sheet.text()) {
             self.faulty = true;
@@ -206,7 +209,7 @@ impl<R: Files + Input + Print + Eprint + AllocGlobal> Play<'_, R> {
                 self.tell_typed(faults.as_slice(), &[])?;
                 if self.terminal {
                     for remark in &oddities(self.rt.alloc(), line)? {
-                        eprintln!(self.rt; "{}", remark.explanation.text)?;
+                        eprintln!(self.rt; "{}", remark.explanation.text(self.rt.alloc())?)?;
                     }
                     self.tell_more()?;
                 }
@@ -214,7 +217,7 @@ impl<R: Files + Input + Print + Eprint + AllocGlobal> Play<'_, R> {
             Ok(Accepted::Plain(number, fault)) => self.tell_fault(line, number, fault)?,
             Ok(Accepted::Named(faults)) => self.tell_typed(faults.as_slice(), line)?,
             Err(ScriptFault::NoMemory) => return Err(AllocError.into()),
-            Err(_) => self.refuse("script too long"),
+            Err(_) => self.refuse(PlayFault::TooLong),
         }
         Ok(())
     }
@@ -227,7 +230,7 @@ impl<R: Files + Input + Print + Eprint + AllocGlobal> Play<'_, R> {
     }
 
     /// Reports faults of the lines so far and of this line after them.
-    fn tell_typed(&mut self, faults: &[Fault], line: &[u8]) -> io::Result<()> {
+    fn tell_typed(&mut self, faults: &[Fault<NamesFault>], line: &[u8]) -> io::Result<()> {
         if !faults.is_empty() {
             let text = self.text_with(line)?;
             self.tell_faults(faults, None, text.as_slice());
@@ -237,14 +240,13 @@ impl<R: Files + Input + Print + Eprint + AllocGlobal> Play<'_, R> {
 
     /// Reports the fault of a line of a plain script, and explains it on a terminal.
     fn tell_fault(&mut self, line: &[u8], number: u64, fault: LineFault) -> io::Result<()> {
-        let why = format!(in self.rt.alloc(); "{fault}")?;
-        self.refuse(why.as_str());
+        self.refuse(PlayFault::Line(fault));
         if !self.terminal {
             return Ok(());
         }
         let text = self.text_with(line)?;
         if let Some(explanation) = explain(self.rt.alloc(), text.as_slice(), number, fault)? {
-            eprintln!(self.rt; "{}", explanation.text)?;
+            eprintln!(self.rt; "{}", explanation.text(self.rt.alloc())?)?;
         }
         Ok(())
     }

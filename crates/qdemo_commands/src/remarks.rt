@@ -8,6 +8,7 @@ use qscript_explain::faults::{Remark, faults, oddities};
 use qscript_explain::report::RunReport;
 use qscript_text::parts::{Lines, Span};
 use qscript_text::place::Fault;
+use std::fmt::Display;
 use std::io;
 use std::process::ExitCode;
 
@@ -38,14 +39,14 @@ impl<'a> FaultSource<'a> {
     }
 
     /// Prints a line for each fault, and below it the faulty line with a mark, if `shows` is set.
-    pub fn tell_faults<R: Eprint + AllocGlobal>(self, rt: &R, faults: &[Fault]) {
+    pub fn tell_faults<R: Eprint + AllocGlobal, K: Display>(self, rt: &R, faults: &[Fault<K>]) {
         for fault in faults {
-            let Fault { place, what } = fault;
-            let (line, column) = (place.line, place.column);
+            let (line, column) = (fault.place.line, fault.place.column);
             match self.file {
                 Some(file) => tell_fault(rt, self.colours, format_args!("{file}:{fault}")),
                 None => {
-                    let told = format_args!("line {line}, column {column}: {what}");
+                    let (kind, hint) = (&fault.kind, fault.hint());
+                    let told = format_args!("line {line}, column {column}: {kind}{hint}");
                     tell_fault(rt, self.colours, told);
                 }
             }
@@ -61,15 +62,19 @@ impl<'a> FaultSource<'a> {
     }
 
     /// Prints faults, and ends the program with status 1.
-    pub fn end_faulty<R: Eprint + AllocGlobal>(self, rt: &R, faults: &[Fault]) -> ExitCode {
+    pub fn end_faulty<R: Eprint + AllocGlobal, K: Display>(
+        self,
+        rt: &R,
+        faults: &[Fault<K>],
+    ) -> ExitCode {
         self.tell_faults(rt, faults);
         ExitCode::FAILURE
     }
 
     /// Prints `FILE:LINE:COLUMN: FAULT`, or `line LINE: FAULT` if the script has no file.
-    fn tell_place<R: Eprint + AllocGlobal>(self, rt: &R, remark: &Remark) -> io::Result<()> {
+    fn tell_place<R: Eprint + AllocGlobal>(self, rt: &R, remark: &Remark<'_>) -> io::Result<()> {
         let line = remark.line;
-        let column = remark.explanation.column;
+        let column = remark.explanation.column();
         let place = match self.file {
             Some(name) => format!(in rt.alloc(); "{name}:{line}:{column}")?,
             None => format!(in rt.alloc(); "line {line}")?,
@@ -84,7 +89,7 @@ impl<'a> FaultSource<'a> {
     pub fn tell_oddities<R: Eprint + AllocGlobal>(self, rt: &R) -> io::Result<()> {
         for remark in &oddities(rt.alloc(), self.text)? {
             self.tell_place(rt, remark)?;
-            eprintln!(rt; "{}", remark.explanation.text)?;
+            eprintln!(rt; "{}", remark.explanation.text(rt.alloc())?)?;
         }
         Ok(())
     }
@@ -126,7 +131,10 @@ pub fn tell_faults<R: Eprint + AllocGlobal>(rt: &R, source: FaultSource<'_>) -> 
         if !source.shows {
             break;
         }
-        let _ = eprintln!(rt; "{}", remark.explanation.text);
+        let Ok(text) = remark.explanation.text(rt.alloc()) else {
+            return false;
+        };
+        let _ = eprintln!(rt; "{text}");
     }
     !remarks.is_empty()
 }

@@ -2,16 +2,25 @@
 
 use crate::command::ScriptRun;
 use crate::completion::{ExitResult, end_failed, end_quietly, end_unread, end_with, print_text};
-use crate::json::trace_json;
+use crate::json::events::{EventWriter, push_blocked};
+use crate::json::faults::{faults_told, lines_of};
+use crate::json::names::PlainLines;
+use crate::json::push_line;
 use crate::names::{is_named, run_named};
 use crate::remarks;
 use crate::remarks::tell_faults;
 use crate::streams::{KeptReader, Outlet};
 use qscript::fault::ScriptFault;
+use qscript::parse;
 use qscript::script::script;
 use qscript::transfer::read_all;
 use qscript::watched::Watched;
-use qscript_explain::report::explained;
+use qscript_explain::faults::faults;
+use qscript_explain::report::{ReportedRun, RunReport, explained};
+use qscript_names::context::Context;
+use qscript_names::scope::Scope;
+use qscript_text::parts::call_lines;
+use std::alloc::{AllocError, Global};
 use std::io::Read;
 use std::process::ExitCode;
 use std::rt::Files;
@@ -67,10 +76,13 @@ fn explain_from<R: Print + Eprint + AllocGlobal, S: Read + Drop>(
 ) -> ExitResult {
     let mut reader = Watched::new(KeptReader::new(rt.alloc(), input, true));
     let text = read_all(rt.alloc(), &mut reader);
-    let explained = text.and_then(|text| explained(rt.alloc(), text.as_slice()));
+    let explained = text.and_then(|text| match run.json {
+        true => recorded(rt.alloc(), text.as_slice()),
+        false => explained(rt.alloc(), text.as_slice()),
+    });
     let source = reader.into_inner();
     let (trace, report) = explained.map_err(|fault| end_faulty(rt, run, fault, &source))?;
-    print_trace(rt, run, trace.as_str())?;
+    print_text(rt, trace.as_str())?;
     if run.explain {
         let text = source.text().unwrap_or(&[]);
         let file = run.file.as_deref();
@@ -81,23 +93,48 @@ fn explain_from<R: Print + Eprint + AllocGlobal, S: Read + Drop>(
     Ok(ExitCode::from(u8::from(is_refused)))
 }
 
-/// Prints a trace, or its objects of JSON if they are requested.
-pub fn print_trace<R: Print + Eprint + AllocGlobal>(
+/// Returns the lines of JSON that a script prints, and the report of the same run.
+fn recorded(alloc: Global, text: &[u8]) -> Result<(String, RunReport), ScriptFault> {
+    let script = parse(alloc, text)?;
+    let lines = call_lines(alloc, text)?;
+    let kept = Vec::from_slice(alloc, lines.as_slice())?;
+    let mut run = ReportedRun::new(alloc, &script, kept)?;
+    let names = PlainLines(lines.as_slice());
+    let scope = Scope::new(alloc);
+    let context = Context::plain(alloc, &scope);
+    let mut events = EventWriter::new(alloc);
+    let mut out = String::new(alloc);
+    for (thread, call) in script.calls {
+        let event = events.begin(thread, &call, &names)?;
+        run.make(context, thread, call)?;
+        let event = events.end(event, run.run().completions(), &names)?;
+        push_line(&mut out, &event)?;
+    }
+    push_blocked(&mut out, &run, &names)?;
+    let (_, report) = run.finish(context)?;
+    Ok((out, report))
+}
+
+/// Prints the faults of a plain script as lines of JSON.
+fn print_faults<R: Print + Eprint + AllocGlobal>(
     rt: &R,
     run: &ScriptRun,
-    trace: &str,
+    text: &[u8],
 ) -> Result<(), ExitCode> {
-    if !run.json {
-        return print_text(rt, trace);
-    }
-    let objects = trace_json(rt.alloc(), trace).map_err(|_| end_failed(rt, "out of memory"))?;
-    print_text(rt, objects.as_str())
+    let lines = fault_lines(rt.alloc(), run, text).map_err(|_| end_failed(rt, "out of memory"))?;
+    print_text(rt, lines.as_str())
+}
+
+/// Returns the faults of a plain script as lines of JSON.
+fn fault_lines(alloc: Global, run: &ScriptRun, text: &[u8]) -> Result<String, AllocError> {
+    let faults = faults_told(alloc, faults(alloc, text)?.as_slice(), run.explain)?;
+    lines_of(alloc, faults.as_slice())
 }
 
 /// Ends the program for a script that has no run, and prints why. If explanations are requested, or on a
 /// terminal, its faults are explained. Otherwise only the first fault is printed, with its place if the
-/// script has a file.
-fn end_faulty<R: Eprint + AllocGlobal, S>(
+/// script has a file. With `--json` the faults are also printed as objects.
+fn end_faulty<R: Print + Eprint + AllocGlobal, S>(
     rt: &R,
     run: &ScriptRun,
     fault: ScriptFault,
@@ -108,6 +145,11 @@ fn end_faulty<R: Eprint + AllocGlobal, S>(
         return end_unread(rt, name, error);
     }
     if let (ScriptFault::Line { .. }, Some(text)) = (&fault, source.text()) {
+        if run.json
+            && let Err(code) = print_faults(rt, run, text)
+        {
+            return code;
+        }
         let shows = run.explain || run.screen.errors;
         let faulty = remarks::FaultSource::new(file, text, shows, run.screen.colours.errors);
         if tell_faults(rt, faulty) {

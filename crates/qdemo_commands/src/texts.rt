@@ -282,7 +282,7 @@ Exit status:
 
 /// The texts of `chart`.
 pub static CHART: Texts = texts!(
-    "Draws the run of a script: its threads, messages, replies and pulses",
+    "Draws the run of a script or of a design: its threads, messages and replies",
     "Each thread is a vertical line, with its state as a bar. Each message, reply
 and pulse is an arrow in the row of the call in which it arrives. The arrow of
 a message that nobody has received ends in the air. A circle of threads that
@@ -290,14 +290,15 @@ wait for one another is listed below the rows. On a terminal, and with --text,
 the drawing is columns of text. Otherwise it is SVG, which a browser shows.
 docs/CHARTS.md explains how to read it.
 
-At most 400 calls can be drawn. Draw a part of a longer script with --from and
---to. 'qdemo help script' describes scripts.",
+Of a FILE.design, the run that shows its fault is drawn. At most 400 calls can
+be drawn. Draw a part of a longer run with --from and --to. 'qdemo help script'
+describes scripts, and 'qdemo help explore' designs.",
     "Example:
   $ qdemo chart first-message.txt -o run.svg
 
 Exit status:
   0    success
-  1    a faulty script, or one with too many calls
+  1    a faulty script, too many calls, or a design without a fault
   2    a faulty command line, or the drawing would be written over its script
   3    reading, writing or memory failed
   141  nobody reads the output"

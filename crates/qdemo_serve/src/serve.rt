@@ -18,7 +18,7 @@ use qbase::ids::{ProcessNo, ThreadNo};
 use qscript::watched::Watched;
 use qshared::parts::Parts;
 use qtables::roster::Roster;
-use std::alloc::Global;
+use std::alloc::{AllocError, Global};
 use std::io::Write;
 use std::marker::Brand;
 use std::rt::Clock;
@@ -67,38 +67,41 @@ pub struct RunOutcome {
 }
 
 /// Starts clients and servers, each on its own thread. Each client sends its messages and checks the replies.
-/// Then it stops the servers, stores the recording if one is made, and writes five lines of results, and five
-/// more of times if they were taken. It stores and writes only after all threads have ended. A worker that
-/// fails ends all of them.
-pub fn serve<R: Threads + Wait + Clock + Eprint + Sync, S: RecordStore, W: Write>(
+/// Then it stops the servers, stores the recording if one is made, and returns the results. It stores and
+/// returns only after all threads have ended. A worker that fails ends all of them.
+pub fn serve<R: Threads + Wait + Clock + Eprint + Sync, S: RecordStore>(
     rt: &R,
     alloc: Global,
     settings: Settings,
     store: &mut S,
-    writer: &mut Watched<W>,
-) -> Result<(), ServeFault>
+) -> Result<Totals, ServeFault>
     requires { Fit settings }
 {
     let outcome = outcome_of(rt, alloc, settings, Stacks::ample())?;
     if let Some(recording) = &outcome.recording {
         store.store(recording)?;
     }
-    tell(alloc, &outcome.totals, writer)
+    Ok(outcome.totals)
 }
 
-/// Writes the five lines of results, and five more of times if they were taken.
-fn tell<W: Write>(
+/// Returns the five lines of results, and five more of times if they were taken.
+pub fn lines_of(alloc: Global, totals: &Totals) -> Result<String, AllocError> {
+    let mut lines = text_of(alloc, totals)?;
+    if let Some(timing) = totals.timing {
+        let times = timing_text_of(alloc, &timing)?;
+        lines.push_str(times.as_str())?;
+    }
+    Ok(lines)
+}
+
+/// Writes the lines of results.
+pub fn write_results<W: Write>(
     alloc: Global,
     totals: &Totals,
     writer: &mut Watched<W>,
 ) -> Result<(), ServeFault> {
-    let text = text_of(alloc, totals)?;
-    write_all(writer, text.as_bytes())?;
-    let Some(timing) = totals.timing else {
-        return Ok(());
-    };
-    let text = timing_text_of(alloc, &timing)?;
-    write_all(writer, text.as_bytes())
+    let lines = lines_of(alloc, totals)?;
+    write_all(writer, lines.as_bytes())
 }
 
 /// Runs a demonstration whose threads have stacks of these sizes. A thread whose stack is too large can't be

@@ -134,6 +134,10 @@ impl<'c, E: Endpoint, C: Clock> Endpoint for Timed<'c, E, C> {
 
     ghost came_both = { λ t. E.came_both t.inner };
 
+    ghost waited = { λ t. E.waited t.inner };
+
+    ghost awaited = { λ t. E.awaited t.inner };
+
     fn thread(&self) -> ThreadNo {
         self.inner.thread()
     }

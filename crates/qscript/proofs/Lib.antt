@@ -1,4 +1,5 @@
 pub mod Common
+pub mod Marks
 pub mod Output
 pub mod Joining
 pub mod Runnable

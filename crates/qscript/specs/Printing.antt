@@ -1,7 +1,5 @@
 -- The text of a run.
 pub mod Words
-pub mod State
-pub mod Marks
 pub mod Buffer
 pub mod OpenLine
 pub mod Printed

@@ -7,7 +7,6 @@ pub mod buffer;
 pub mod ended_line;
 pub mod marks;
 pub mod open_line;
-pub(crate) mod operands;
 pub(crate) mod printer;
 mod printing_laws;
 

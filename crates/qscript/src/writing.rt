@@ -38,7 +38,7 @@ fn push_roster(out: &mut String, roster: &[Member]) -> Result<(), AllocError>
 }
 
 /// Adds `thread THREAD PROCESS PRIORITY` and a newline.
-fn push_member(out: &mut String, member: Member) -> Result<(), AllocError>
+pub fn push_member(out: &mut String, member: Member) -> Result<(), AllocError>
     ensures { OnOk result (string_bytes out.new ≡ string_bytes out.old ++ member_text member) }
 {
     let thread = member.thread.0;
@@ -57,7 +57,7 @@ fn push_calls(out: &mut String, run: &Trace) -> Result<(), AllocError>
 }
 
 /// Adds the line of the call at index `k` of the run.
-fn push_call_at(out: &mut String, run: &Trace, k: usize) -> Result<(), AllocError>
+pub fn push_call_at(out: &mut String, run: &Trace, k: usize) -> Result<(), AllocError>
     requires { k < length run.now.events }
     ensures { OnOk result (option_map (λ e. string_bytes out.old ++ call_text e) (slice_get run.now.events k)
         ≡ Some (string_bytes out.new)) }

@@ -4,7 +4,7 @@ use crate::row::ChartRow;
 use qbase::ids::ThreadNo;
 use qkernel::open_call::Blocked;
 use qscript_explain::waiting::{Deadlock, Wait};
-use qscript_names::wording::Context;
+use qscript_names::context::Context;
 use qtables::member::Member;
 use std::alloc::AllocError;
 

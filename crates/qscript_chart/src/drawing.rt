@@ -1,6 +1,6 @@
 //! Draws the run of a script.
 
-ghost use Rattle.std.specs.Prelude.{◌≤◌, length, IfOk, IfErr};
+ghost use Rattle.std.specs.Prelude.{◌≡◌, ◌≤◌, length, IfOk, IfErr};
 ghost use Rattle.std.specs.List.Sorted.{IsPermutation};
 ghost use Rattle.qscript.specs.Script.{CanRun};
 ghost use Rattle.qscript_chart.specs.Charts.{IsChartOf, IsCharted, IsChartFault, IsUncharted};
@@ -8,23 +8,36 @@ ghost use Rattle.qscript_chart.specs.View.{drawn_count};
 
 use crate::chart::Chart;
 use crate::fault::ChartFault;
-use crate::run::rows_of;
+use crate::row::ChartRow;
+pub use crate::run::ThreadStates;
+use crate::run::{rows_of, rows_of_trace};
 use crate::svg::svg_of;
 use crate::text::text_of;
 use crate::view::{ChartView, Style};
+use qkernel::kernel::Kernel;
+use qkernel::trace::Trace;
 use qscript::run::Run;
 use qscript::script::roster_with_all;
 use qscript::{Script, parse};
 use qscript_explain::history::CallHistory;
 use qscript_explain::waiting::{deadlocks, waits};
+use qscript_names::context::Context;
 use qscript_names::scope::Scope;
-use qscript_names::wording::Context;
 use qtables::member::Member;
 use std::alloc::{AllocError, Global};
 use std::mem;
 
 /// The greatest number of calls that are drawn.
 pub const MOST_CALLS: usize = 400;
+
+/// A run that is over: its events, the states of the threads before the first event and after each event, and
+/// the kernel at its end.
+#[derive(Clone, Copy)]
+pub struct PastRun<'a> {
+    pub trace: &'a Trace,
+    pub states: &'a [ThreadStates],
+    pub kernel: &'a Kernel,
+}
 
 /// Runs the script in a text on a new kernel, and returns the drawing of the run. Fails if the script is
 /// faulty, if there is no memory, or if more than 400 calls would be drawn.
@@ -48,12 +61,40 @@ pub fn drawing_of(
     ensures { IfErr result (IsUncharted view.now script.calls.items) }
 {
     let whole = chart_of(names, script, view)?;
+    Ok(drawn_part(names, whole, view)?)
+}
+
+/// Returns the drawing of a run that is over. Fails if there is no memory, or if more than 400 calls would be
+/// drawn.
+pub fn drawing_of_run(
+    names: Context<'_>,
+    run: PastRun<'_>,
+    view: &ChartView,
+) -> Result<String, ChartFault> {
+    let PastRun {
+        trace,
+        states,
+        kernel,
+    } = run;
+    if view.span(trace.len()) > MOST_CALLS {
+        return Err(ChartFault::TooManyCalls(trace.len()));
+    }
+    let alloc = names.alloc;
+    let threads = kernel.threads().iter();
+    let members = threads.map(|thread| thread.member).collect(alloc)?;
+    let history = CallHistory::of(alloc, trace)?;
+    let rows = rows_of_trace(names, trace, states, view.bytes)?;
+    let whole = chart_with(alloc, kernel, &history, members, rows)?;
+    Ok(drawn_part(names, whole, view)?)
+}
+
+/// Draws the part of a chart that the view shows.
+fn drawn_part(names: Context<'_>, whole: Chart, view: &ChartView) -> Result<String, AllocError> {
     let part = part_of(names.alloc, whole, view)?;
-    let drawn = match view.style {
-        Style::Svg => svg_of(names, &part)?,
-        Style::Text => text_of(names, &part)?,
-    };
-    Ok(drawn)
+    match view.style {
+        Style::Svg => svg_of(names, &part),
+        Style::Text => text_of(names, &part),
+    }
 }
 
 /// Runs the script in a text on a new kernel, and returns the chart of the run with all its rows. Fails if
@@ -86,9 +127,24 @@ pub fn chart_of(names: Context<'_>, script: Script, view: &ChartView) -> Result<
     let mut run = Run::new(alloc, &roster, calls)?;
     let mut history = CallHistory::new(alloc);
     let rows = rows_of(names, &mut run, &mut history, script.calls, view.bytes)?;
-    let waits = waits(alloc, run.kernel(), &history, &[])?;
-    let deadlocks = deadlocks(alloc, run.kernel(), waits.as_slice(), &[])?;
-    let lifelines = by_process(script.roster)?;
+    let chart = chart_with(alloc, run.kernel(), &history, script.roster, rows)?;
+    Ok(chart)
+}
+
+/// Returns the chart with these threads and rows, after which the kernel and the history of calls are these.
+fn chart_with(
+    alloc: Global,
+    kernel: &Kernel,
+    history: &CallHistory,
+    members: Vec<Member>,
+    rows: Vec<ChartRow>,
+) -> Result<Chart, AllocError>
+    ensures lines { IfOk result (λ chart. IsPermutation members.items chart.lifelines.items) }
+    ensures rows { IfOk result (λ chart. chart.rows ≡ rows) }
+{
+    let waits = waits(alloc, kernel, history, &[])?;
+    let deadlocks = deadlocks(alloc, kernel, waits.as_slice(), &[])?;
+    let lifelines = by_process(members)?;
     let blocked = Vec::new(alloc);
     Ok(Chart {
         lifelines,

@@ -9,7 +9,7 @@ use qkernel::call::{Call, Completion, Mark};
 use qmodel::kind::CallKind;
 use qqueue::item::What;
 use qscript_explain::why::operand_shown;
-use qscript_names::wording::Context;
+use qscript_names::context::Context;
 use qscript_text::states::state_name;
 use std::alloc::{AllocError, Global};
 

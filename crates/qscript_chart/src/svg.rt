@@ -13,7 +13,7 @@ use fixed::{LEGEND, START};
 use qbase::ids::ThreadNo;
 use qbase::state::ThreadState;
 use qscript_explain::waiting::Wait;
-use qscript_names::wording::Context;
+use qscript_names::context::Context;
 use qscript_text::states::{state_among, state_word};
 use qtables::member::Member;
 use std::alloc::AllocError;

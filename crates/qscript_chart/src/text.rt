@@ -11,7 +11,7 @@ use line::TextLine;
 use qbase::ids::ThreadNo;
 use qbase::state::ThreadState;
 use qscript_explain::waiting::Wait;
-use qscript_names::wording::Context;
+use qscript_names::context::Context;
 use qscript_text::states::state_among;
 use std::alloc::AllocError;
 

@@ -9,7 +9,7 @@ use qkernel::kernel::Kernel;
 use qmodel::call::Call;
 use qscript::run::Run;
 use qscript::script::roster_with_all;
-use qscript_names::wording::Context;
+use qscript_names::context::Context;
 use qtables::member::Member;
 use std::alloc::{AllocError, Global};
 
@@ -61,10 +61,15 @@ impl ExplainedRun {
         )
     }
 
+    /// Returns which thread waits for which now.
+    pub fn waits(&self, alloc: Global) -> Result<Vec<Wait>, AllocError> {
+        waits(alloc, self.run.kernel(), &self.history, &[])
+    }
+
     /// Returns in words which thread waits for which now, a line for each, and then the deadlocks.
     pub fn wait_words(&self, names: Context<'_>) -> Result<Vec<String>, AllocError> {
         let kernel = self.run.kernel();
-        let waits = waits(names.alloc, kernel, &self.history, &[])?;
+        let waits = self.waits(names.alloc)?;
         let mut words = Vec::new(names.alloc);
         push_waits(&mut words, names, kernel, waits.as_slice())?;
         Ok(words)

@@ -1,7 +1,8 @@
 //! Unproved: words and layout. Finds all faults of a text, and words that are probably mistakes.
 
-use crate::explanation::{Explanation, explain_line, explanation_of};
-use qscript_names::hints::{buffer_hint, is_utf_16};
+use crate::explanation::{Explanation, explain_line};
+use crate::plain_fault::PlainFault;
+use qscript_names::hints::{decimal_buffer, is_utf_16};
 use qscript_names::named::MOST_FAULTS;
 use qscript_text::fault::{LineFault, ParseError};
 use qscript_text::grammar::{OperandKind, call_form};
@@ -17,10 +18,10 @@ use std::alloc::{AllocError, Global};
 
 /// A remark on a line: its number, counted from 1, its fault if it has one, and the explanation.
 #[derive(Drop)]
-pub struct Remark {
+pub struct Remark<'a> {
     pub line: usize,
     pub fault: Option<LineFault>,
-    pub explanation: Explanation,
+    pub explanation: Explanation<'a>,
 }
 
 /// The facts from the lines so far on which the next lines depend.
@@ -35,7 +36,7 @@ struct FaultReader {
 /// Returns the faults of the lines of a text in order, at most `MOST_FAULTS`, or only the first of a text in
 /// UTF-16. The first is the fault that a run reports. Lines after a faulty one are read too. A fault that
 /// follows from an earlier one is left out if it is recognized.
-pub fn faults(alloc: Global, text: &[u8]) -> Result<Vec<Remark>, AllocError> {
+pub fn faults(alloc: Global, text: &[u8]) -> Result<Vec<Remark<'_>>, AllocError> {
     let mut reader = FaultReader {
         roster: Vec::new(alloc),
         strangers: Vec::new(alloc),
@@ -100,7 +101,7 @@ impl FaultReader {
 
 /// Returns the words of a text without faults that are probably mistakes, at most `MOST_FAULTS`: buffers that
 /// look like lengths. The text is a script, plain or with names, or a design.
-pub fn oddities(alloc: Global, text: &[u8]) -> Result<Vec<Remark>, AllocError> {
+pub fn oddities(alloc: Global, text: &[u8]) -> Result<Vec<Remark<'_>>, AllocError> {
     let mut remarks = Vec::new(alloc);
     for (at, line) in Lines(text).enumerate() {
         if remarks.len() >= MOST_FAULTS {
@@ -117,7 +118,7 @@ pub fn oddities(alloc: Global, text: &[u8]) -> Result<Vec<Remark>, AllocError> {
     Ok(remarks)
 }
 
-fn oddity(alloc: Global, line: &[u8]) -> Result<Option<Explanation>, AllocError> {
+fn oddity(alloc: Global, line: &[u8]) -> Result<Option<Explanation<'_>>, AllocError> {
     let tokens = match tokens(alloc, line, 1) {
         Ok(tokens) => tokens,
         Err(ReadError::Memory) => return Err(AllocError),
@@ -130,10 +131,12 @@ fn oddity(alloc: Global, line: &[u8]) -> Result<Option<Explanation>, AllocError>
         at: buffer.place.column.saturating_sub(1) as usize,
         len: buffer.bytes.len(),
     };
-    match buffer_hint(alloc, buffer.bytes)? {
-        Some(hint) => Ok(Some(explanation_of(alloc, line, place, hint)?)),
-        None => Ok(None),
-    }
+    let decimal = decimal_buffer(alloc, buffer.bytes)?;
+    Ok(decimal.map(|buffer| Explanation {
+        line,
+        place,
+        kind: PlainFault::Buffer(buffer),
+    }))
 }
 
 /// Returns the buffer of a call's line, with or without its caller, if it is a plain word.

@@ -1,6 +1,7 @@
 //! Unproved: words and layout. Keeps the outcome of each call of a run.
 
 use qbase::ids::ThreadNo;
+use qkernel::trace::Trace;
 use qmodel::call::{Call, Completion, Mark};
 use qmodel::kind::CallKind;
 use std::alloc::{AllocError, Global};
@@ -81,6 +82,15 @@ impl CallHistory {
     pub fn new(alloc: Global) -> CallHistory {
         let calls = Vec::new(alloc);
         CallHistory { calls }
+    }
+
+    /// Returns the history of the calls of a run.
+    pub fn of(alloc: Global, run: &Trace) -> Result<CallHistory, AllocError> {
+        let mut history = CallHistory::new(alloc);
+        for k in 0..run.len() {
+            history.add(PastCall::of(run.thread(k), run.call(k)), run.completions(k))?;
+        }
+        Ok(history)
     }
 
     /// Adds the next call and the completions of its event.

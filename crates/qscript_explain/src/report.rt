@@ -1,13 +1,14 @@
 //! Unproved: words and layout. Reports why calls of a run failed, and which threads wait at its end.
 
 use crate::explained_run::ExplainedRun;
+use crate::waiting::Wait;
 use qbase::ids::ThreadNo;
 use qmodel::call::{Call, Mark};
 use qscript::fault::ScriptFault;
 use qscript::run::Run;
 use qscript::{Script, parse};
+use qscript_names::context::Context;
 use qscript_names::scope::Scope;
-use qscript_names::wording::Context;
 use qscript_text::parts::call_lines;
 use std::alloc::{AllocError, Global};
 
@@ -63,6 +64,11 @@ impl ReportedRun {
     /// Returns the run, for reading.
     pub fn run(&self) -> &Run {
         self.run.run()
+    }
+
+    /// Returns which thread waits for which now.
+    pub fn waits(&self, alloc: Global) -> Result<Vec<Wait>, AllocError> {
+        self.run.waits(alloc)
     }
 
     /// Makes the next call, and counts the failures in its event. Notes them, up to `MOST_REFUSALS` in all.

@@ -9,7 +9,7 @@ use qmodel::call::Call;
 use qscript::MOST_TEXT;
 use qscript::fault::ScriptFault;
 use qscript::printing::open_line::push_open;
-use qscript_names::wording::Context;
+use qscript_names::context::Context;
 use qscript_text::fault::ParseError;
 use qscript_text::parts::Lines;
 pub use qscript_text::parts::last_line;

@@ -4,7 +4,7 @@ use qkernel::kernel::Kernel;
 use qkernel::open_call::Blocked;
 use qmodel::call::Mark;
 use qscript::printing::marks::push_mark;
-use qscript_names::wording::Context;
+use qscript_names::context::Context;
 use qscript_text::states::state_among;
 use qtables::member::Member;
 use std::alloc::AllocError;

@@ -5,7 +5,7 @@ use qbase::ids::{ProcessNo, ThreadNo};
 use qbase::state::ThreadState;
 use qkernel::kernel::Kernel;
 use qkernel::open_call::Blocked;
-use qscript_names::wording::Context;
+use qscript_names::context::Context;
 use std::alloc::{AllocError, Global};
 
 /// A thread whose message has no reply yet.

@@ -9,8 +9,8 @@ use qkernel::kernel::Kernel;
 use qmodel::call::{Completion, Mark};
 use qmodel::kind::CallKind;
 use qmodel::operands::OperandKind;
+use qscript_names::context::Context;
 use qscript_names::shown::ShownNames;
-use qscript_names::wording::Context;
 use rules::RefusedCall;
 use std::alloc::AllocError;
 

@@ -1,9 +1,8 @@
 -- Names of other crates and of the definitions, which many of these proofs use.
 pub use Rattle.qscript_names.specs.Names.{Names, none, with_line, with_process}
-pub use Rattle.qscript_names.specs.Plain.{name_faults, operands_fault, plain_lines, plain_text, words_of}
+pub use Rattle.qscript_names.specs.NameFaults.{name_faults, operands_fault}
+pub use Rattle.qscript_names.specs.Plain.{plain_lines, plain_text, words_of}
 pub use Rattle.qscript_names.specs.declared.label.Label.{Label}
-pub use Rattle.qscript_text.specs.Reading.Lines.{lines_of}
-pub use Rattle.qscript_text.proofs.Words.{without_return}
 pub use Rattle.std.proofs.Common.{Bool, List, None, Option, Some, [], ap, arith, cond, drop, false, get_or}
 pub use Rattle.std.proofs.Common.{if◌then◌else◌, inl, inr, length, length-append, length-take, map, nat_lt, not}
 pub use Rattle.std.proofs.Common.{position, refl, slice_get, string_bytes, suc, sym, take, true, ℕ, ◌++◌, ◌+◌, ◌<◌, ◌∙◌}

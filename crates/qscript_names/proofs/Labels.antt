@@ -1,6 +1,6 @@
 -- The last label with a name, by its place.
 use Rattle.qscript_names.proofs.Common.{◌≡◌, ◌⊎◌, ℕ, suc, Bool, true, false, List, [], ◌∷◌, ◌++◌, length, Option, Some}
-use Rattle.qscript_names.proofs.Common.{None, refl, ◌∙◌, inl, inr, slice_get, if◌then◌else◌, bytes_eq, reverse_onto}
+use Rattle.qscript_names.proofs.Common.{None, refl, inl, inr, slice_get, if◌then◌else◌, bytes_eq, reverse_onto}
 use Rattle.qscript_names.proofs.Common.{Label}
 use Rattle.std.specs.Prelude.{reverse, find}
 use Rattle.std.specs.Option.{option_or, option_map}

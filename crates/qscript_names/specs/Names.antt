@@ -63,6 +63,7 @@ with_process names (processes.Name name) = with_name names name
 -- the nth call line is call n
 abbrev pub with_line : Names → NamedLine → Names
 with_line names (lines.Aside text) = names
+with_line names (lines.State text) = names
 with_line names (lines.Thread t) = record {
   threads = names.threads + 1;
   calls = names.calls;

@@ -2,9 +2,11 @@
 
 use crate::line::{NameMention, Operand};
 use qbase::bytes::Bytes;
+use qexplore_programs::pattern::ResultKind;
 use qmodel::kind::CallKind;
 use qscript_text::place::Place;
 use qscript_text::word::Word;
+use std::alloc::Global;
 
 /// The part of a script that is read.
 #[derive(Clone, Copy, PartialEq, Eq)]
@@ -15,21 +17,51 @@ pub enum Extent {
     Front,
 }
 
-/// A pattern for one part of a completion. A trace prints the parts in the same order.
+/// A pattern of a number.
 #[derive(Drop)]
-pub enum ExpectedResult {
-    /// This word.
-    Word(&'static str),
-    /// This number.
+pub enum NumberPattern {
+    /// Any number.
+    Any,
     Number(i128),
     /// The number of this name.
     Named(NameMention),
     /// The number of the process with this name.
     Process(Word),
-    /// A buffer that begins with these bytes.
-    Front(Bytes),
-    /// Anything.
+}
+
+/// A pattern of the buffer of a completion.
+#[derive(Drop)]
+pub enum BufferPattern {
+    /// Any buffer.
     Any,
+    /// A buffer that begins with these bytes.
+    Begins(Bytes),
+}
+
+/// A pattern of the result of a completed call. A completion matches it if it has this kind, if its first
+/// numbers are these, and if its buffer matches.
+#[derive(Drop)]
+pub struct ResultPattern {
+    pub kind: ResultKind,
+    /// The numbers that the kind doesn't have: the id of a message; the call that sent a pulse, and the
+    /// priority of the pulse.
+    pub head: Vec<NumberPattern>,
+    /// The numbers of the kind, in the order in which a trace prints them.
+    pub numbers: Vec<NumberPattern>,
+    /// The pattern of the buffer, if there is one. It matches no call without a buffer.
+    pub buffer: Option<BufferPattern>,
+}
+
+impl ResultPattern {
+    /// Returns the pattern that each result of this kind matches.
+    pub fn of(alloc: Global, kind: ResultKind) -> ResultPattern {
+        ResultPattern {
+            kind,
+            head: Vec::new(alloc),
+            numbers: Vec::new(alloc),
+            buffer: None,
+        }
+    }
 }
 
 /// The expected result of a call.
@@ -37,8 +69,8 @@ pub enum ExpectedResult {
 pub enum ExpectedCompletion {
     /// The call doesn't complete in its own event.
     Blocked,
-    /// The first parts of the completion match these patterns.
-    Parts(Vec<ExpectedResult>),
+    /// The call completes, and its result matches this pattern.
+    Completed(ResultPattern),
 }
 
 /// The expected result of a call, with its text and its place.

@@ -6,16 +6,18 @@ use crate::expecting::names::NameCheck;
 use crate::label::NameFault;
 use crate::line::NamedLine;
 use crate::named::{NamedScript, line_fault, name_faults, process_faults, push_process_number};
-use crate::plain::plain_line;
+use crate::names_fault::NamesFault;
 use crate::reading::script::{Lined, lines_behind};
+use crate::resolution::fault_of_line;
+use crate::scope::Scope;
+use crate::translation::content_after;
 use qbase::ids::ThreadNo;
 use qkernel::kernel::Kernel;
 use qmodel::call::Call;
 use qscript_text::Script;
 use qscript_text::fault::ParseError;
 use qscript_text::place::{Fault, Place};
-use qscript_text::reading::line::ScriptLine as Plain;
-use qscript_text::reading::script::line_behind;
+use qscript_text::reading::line::ScriptLine;
 use qtables::member::Member;
 use std::alloc::{AllocError, Global};
 use std::{mem, slice};
@@ -36,9 +38,25 @@ pub struct IncrementalScript {
 
 /// The content that a line added to the run, or the faults of a line that wasn't added. A blank line adds
 /// nothing, or a state that is compared.
-pub type IncrementalStep = Result<Plain, Vec<Fault>>;
+pub type IncrementalStep = Result<ScriptLine, Faults>;
+
+/// The faults of a line, or the differences from its expectations.
+type Faults = Vec<Fault<NamesFault>>;
 
 impl IncrementalScript {
+    /// Returns a script without lines.
+    pub fn new(alloc: Global) -> IncrementalScript {
+        let (calls, states) = (Vec::new(alloc), Vec::new(alloc));
+        IncrementalScript {
+            alloc,
+            check: ExpectationCheck::new(alloc, Scope::new(alloc), calls, states),
+            roster: Vec::new(alloc),
+            processes: Vec::new(alloc),
+            lines: 0,
+            open: Vec::new(alloc),
+        }
+    }
+
     /// Returns the lines of a script that was read, and its calls, which haven't been made yet.
     pub fn of(
         alloc: Global,
@@ -78,7 +96,7 @@ impl IncrementalScript {
         &self,
         extent: Extent,
         state: Option<&StateCheck>,
-    ) -> Result<(Vec<Fault>, Vec<u64>), AllocError> {
+    ) -> Result<(Faults, Vec<u64>), AllocError> {
         let mut open = Vec::new(self.alloc);
         let mut names = NameCheck::new(self.check.context(), extent);
         for call in &self.open {
@@ -96,8 +114,9 @@ impl IncrementalScript {
         Ok((names.faults, open))
     }
 
-    /// Adds a line, unless it is faulty.
+    /// Adds a line, unless it is faulty. It may have its line end.
     pub fn add(&mut self, line: &[u8]) -> Result<IncrementalStep, AllocError> {
+        let line = if line.is_empty() { b"\n" } else { line };
         let calls = self.check.calls.len() as u64;
         let mut lined = lines_behind(self.alloc, line, self.lines, calls)?;
         match lined.lines.pop() {
@@ -105,11 +124,11 @@ impl IncrementalScript {
                 Ok(Err(mem::replace(&mut lined.faults, Vec::new(self.alloc))))
             }
             Some(said) => self.add_said(&said, &mut lined),
-            None => Ok(Ok(Plain::Blank)),
+            None => Ok(Ok(ScriptLine::Blank)),
         }
     }
 
-    /// Adds a line with its expectations, and removes it again if its names or its plain line are faulty.
+    /// Adds a line with its expectations, and removes it again if it is faulty.
     fn add_said(
         &mut self,
         said: &NamedLine,
@@ -118,7 +137,9 @@ impl IncrementalScript {
         let calls = self.check.calls.len();
         let states = self.check.states.len();
         let extent = self.check.scope.extent();
-        let plain = plain_line(self.alloc, &self.check.scope, said)?;
+        let fault = fault_of_line(&self.check.scope, said);
+        let roster = self.roster.as_slice();
+        let content = content_after(self.alloc, roster, calls > 0, &self.check.scope, said);
         if !self.check.scope.has_room() {
             return Err(AllocError);
         }
@@ -126,7 +147,7 @@ impl IncrementalScript {
         self.lines = lined.count;
         self.check.calls.append(&mut lined.calls)?;
         self.check.states.append(&mut lined.states)?;
-        let step = self.step(said, plain, calls)?;
+        let step = self.step(said, fault, content)?;
         if step.is_err() {
             self.lines = self.lines.saturating_sub(1);
             self.check.scope.go_back(self.alloc, extent)?;
@@ -136,25 +157,20 @@ impl IncrementalScript {
         Ok(step)
     }
 
-    /// Returns the content that a line adds to the run, or its faults. `plain` is its plain line or the fault
-    /// of its names, and `calls` is the number of calls above it.
+    /// Returns the content that a line adds to the run, or its faults. `fault` is the fault of its names.
     fn step(
         &mut self,
         said: &NamedLine,
-        plain: Result<String, NameFault>,
-        calls: usize,
+        fault: Option<NameFault>,
+        content: Result<ScriptLine, ParseError>,
     ) -> Result<IncrementalStep, AllocError> {
-        let text = match plain {
-            Ok(text) => text,
-            Err(fault) => {
-                let context = self.check.context();
-                return name_faults(slice::from_ref(said), context, &[fault]).map(Err);
-            }
-        };
-        let roster = self.roster.as_slice();
-        match line_behind(self.alloc, roster, calls > 0, text.as_str().as_bytes()) {
-            Ok(plain) => match self.expected(said, &plain) {
-                Ok(faults) if faults.is_empty() => Ok(Ok(plain)),
+        if let Some(fault) = fault {
+            let context = self.check.context();
+            return name_faults(slice::from_ref(said), context, &[fault]).map(Err);
+        }
+        match content {
+            Ok(content) => match self.expected(said, &content) {
+                Ok(faults) if faults.is_empty() => Ok(Ok(content)),
                 faults => faults.map(Err),
             },
             Err(ParseError::Memory) => Err(AllocError),
@@ -164,26 +180,30 @@ impl IncrementalScript {
 
     /// Adds the process, the call or the thread of a line, or returns the faults of its process or of
     /// expectations.
-    fn expected(&mut self, said: &NamedLine, plain: &Plain) -> Result<Vec<Fault>, AllocError> {
+    fn expected(&mut self, said: &NamedLine, content: &ScriptLine) -> Result<Faults, AllocError> {
         let numbers = self.processes.len();
         push_process_number(&mut self.processes, said)?;
         let processes = self.processes.as_slice();
         let faults = process_faults(self.alloc, processes, &self.check.scope)?;
         if faults.is_empty() {
-            return self.open_faults(said, plain);
+            return self.open_faults(said, content);
         }
         self.processes.truncate(numbers);
         Ok(faults)
     }
 
     /// Adds the call or the thread of a line, or returns the faults of the names in expectations.
-    fn open_faults(&mut self, said: &NamedLine, plain: &Plain) -> Result<Vec<Fault>, AllocError> {
+    fn open_faults(
+        &mut self,
+        said: &NamedLine,
+        content: &ScriptLine,
+    ) -> Result<Faults, AllocError> {
         let waiting = self.open.len();
-        if let Plain::Call(..) = plain {
+        if let ScriptLine::Call(..) = content {
             self.open.push(self.check.calls.len() as u64)?;
         }
         let state = match said {
-            NamedLine::Aside(_) => self.check.states.last(),
+            NamedLine::State(_) => self.check.states.last(),
             _ => None,
         };
         let (faults, open) = self.expectation_faults(Extent::Front, state)?;
@@ -192,7 +212,7 @@ impl IncrementalScript {
             return Ok(faults);
         }
         self.open = open;
-        if let Plain::Roster(member) = plain {
+        if let ScriptLine::Roster(member) = content {
             self.roster.push(*member)?;
         }
         Ok(faults)
@@ -201,7 +221,7 @@ impl IncrementalScript {
     /// Returns the differences from the expectations at the end of the lines that weren't returned before.
     /// These are the names that still aren't defined. If there are none, they are the calls that should have
     /// completed.
-    pub fn finish(&mut self, kernel: Option<&Kernel>) -> Result<Vec<Fault>, AllocError> {
+    pub fn finish(&mut self, kernel: Option<&Kernel>) -> Result<Faults, AllocError> {
         let (faults, _) = self.expectation_faults(Extent::Whole, None)?;
         if !faults.is_empty() {
             return Ok(faults);

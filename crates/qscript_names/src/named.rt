@@ -1,16 +1,17 @@
 //! Reads and translates a script with names.
 
+use crate::context::Context;
 use crate::expectation::{Extent, StateCheck};
 use crate::expecting::check::ExpectationCheck;
 use crate::expecting::names::NameCheck;
 use crate::hints::is_utf_16;
 use crate::label::NameFault;
 use crate::line::{CallLine, LineKind, NamedLine, Operand, Process};
-use crate::plain::plain_of;
+use crate::names_fault::{FaultyName, NameUsage, NamesFault};
 use crate::reading::script::{Lined, lines_behind};
 use crate::scope::Scope;
-use crate::translation::{Refusal, translate};
-use crate::wording::{Context, Usage};
+use crate::translation::{Refusal, resolve, translate};
+use qmodel::kind::CallKind;
 use qscript_text::fault::{LineFault, ScriptFault};
 use qscript_text::parts::Lines;
 use qscript_text::place::{Fault, Place};
@@ -40,7 +41,7 @@ pub enum NamedReading {
     /// It can run.
     Good(NamedScript),
     /// The faults, in the order of its lines, at most `MOST_FAULTS`.
-    Faulty(Vec<Fault>),
+    Faulty(Vec<Fault<NamesFault>>),
 }
 
 /// The most faults of a text that are reported.
@@ -49,23 +50,43 @@ pub const MOST_FAULTS: usize = 20;
 /// The place of the first byte of a text.
 const START: Place = Place { line: 1, column: 1 };
 
-/// Faults with their messages, or an error if there is no memory for them.
-type NamedFaults = Result<Vec<Fault>, AllocError>;
+/// Faults, or an error if there is no memory for them.
+type NamedFaults = Result<Vec<Fault<NamesFault>>, AllocError>;
 
 /// Returns a list of one fault.
-fn single(alloc: Global, place: Place, what: Result<String, AllocError>) -> NamedFaults {
-    Ok(vec![in alloc; Fault { place, what: what? }]?)
+fn single(alloc: Global, place: Place, kind: NamesFault) -> NamedFaults {
+    Ok(vec![in alloc; Fault::new(place, kind)]?)
 }
 
-/// A name, the way in which a line uses it, and the kind that it must have.
-type NameLookup<'a> = (&'a Word, Usage<'a>, LineKind);
+/// A name in a line.
+#[derive(Clone, Copy)]
+struct NameLookup<'a> {
+    name: &'a Word,
+    /// The call that has it as an operand.
+    call: Option<CallKind>,
+    /// The kind that it must have.
+    kind: LineKind,
+}
 
-/// Returns the use of a name by an operand, if the name is at this place.
-fn use_by<'a>(operand: &'a Operand, usage: Usage<'a>, place: Place) -> Option<NameLookup<'a>> {
+impl NameLookup<'_> {
+    /// Returns the way in which the line uses the name.
+    fn usage(self) -> NameUsage {
+        self.call.map_or(NameUsage::Caller, NameUsage::Operand)
+    }
+}
+
+/// Returns the name that an operand has, if it is at this place. `call` is the call that has the operand.
+fn use_by<'a>(
+    operand: &'a Operand,
+    call: Option<CallKind>,
+    place: Place,
+) -> Option<NameLookup<'a>> {
     match operand {
-        Operand::Name(mention) if mention.place == place => {
-            Some((&mention.name, usage, mention.expected))
-        }
+        Operand::Name(mention) if mention.place == place => Some(NameLookup {
+            name: &mention.name,
+            call,
+            kind: mention.expected,
+        }),
         _ => None,
     }
 }
@@ -73,26 +94,30 @@ fn use_by<'a>(operand: &'a Operand, usage: Usage<'a>, place: Place) -> Option<Na
 /// Returns the use of a name at a place of a call's line.
 fn use_in<'a>(call: &'a CallLine, place: Place) -> Option<NameLookup<'a>> {
     for operand in &call.operands {
-        let used = use_by(operand, Usage::Operand(call.verb.as_str()), place);
+        let used = use_by(operand, Some(call.kind), place);
         if used.is_some() {
             return used;
         }
     }
-    use_by(&call.caller, Usage::Caller, place)
+    use_by(&call.caller, None, place)
 }
 
 /// Returns the use of a name at a place, or its definition.
 fn use_at<'a>(lines: &'a [NamedLine], place: Place) -> Option<NameLookup<'a>> {
     for line in lines {
         let (definition, used) = match line {
-            NamedLine::Aside(_) => continue,
+            NamedLine::Aside(_) | NamedLine::State(_) => continue,
             NamedLine::Thread(thread) => (&thread.definition, None),
             NamedLine::Call(call) => (&call.definition, use_in(call, place)),
         };
         match definition {
             _ if used.is_some() => return used,
             Some(definition) if definition.place == place => {
-                return Some((&definition.name, Usage::Caller, definition.kind));
+                return Some(NameLookup {
+                    name: &definition.name,
+                    call: None,
+                    kind: definition.kind,
+                });
             }
             _ => {}
         }
@@ -100,20 +125,20 @@ fn use_at<'a>(lines: &'a [NamedLine], place: Place) -> Option<NameLookup<'a>> {
     None
 }
 
-/// Returns the first faults of the names of the lines, with their messages.
+/// Returns the first faults of the names of the lines.
 pub fn name_faults(lines: &[NamedLine], context: Context<'_>, faults: &[NameFault]) -> NamedFaults {
     let mut told = Vec::new(context.alloc);
     for fault in faults.iter().take(MOST_FAULTS) {
         let place = fault.place;
-        if let Some((name, usage, kind)) = use_at(lines, place) {
-            let what = context.words(name, usage, kind, fault.error)?;
-            told.push(Fault { place, what })?;
+        if let Some(used) = use_at(lines, place) {
+            let name = context.faulty_name(used.name, used.usage(), used.kind, fault.error)?;
+            told.push(Fault::new(place, NamesFault::Name(name)))?;
         }
     }
     Ok(told)
 }
 
-/// Returns the faults of the names in the expectations, with their messages.
+/// Returns the faults of the names in the expectations.
 fn expectation_faults(context: Context<'_>, states: &[StateCheck], extent: Extent) -> NamedFaults {
     let mut names = NameCheck::new(context, extent);
     for call in context.calls {
@@ -144,61 +169,52 @@ pub fn process_faults(alloc: Global, numbers: &[(Place, u64)], scope: &Scope) ->
     for (place, number) in numbers {
         let at = number.wrapping_sub(1) as usize;
         if let Some(name) = scope.process_names().get(at) {
-            let what = format!(in alloc; "process {name} has this number: write its name")?;
-            let place = *place;
-            faults.push(Fault { place, what })?;
+            let name = FaultyName::ProcessNumber(name.copied(alloc)?);
+            faults.push(Fault::new(*place, NamesFault::Name(name)))?;
         }
     }
     Ok(faults)
 }
 
-/// Returns the fault of a line of the plain script, with its message.
+/// Returns the fault of a line of the plain script.
 pub fn line_fault(alloc: Global, line: u64, fault: LineFault) -> NamedFaults {
-    let place = Place { line, column: 1 };
-    let words = match fault {
-        LineFault::LongLine => "expected at most 4,096 bytes in the line's plain form",
-        LineFault::DoubleThread => "another thread has this number",
-        LineFault::TooManyThreads => "expected at most 64 threads in a script",
-        LineFault::UnknownThread => "no thread has this number",
-        other => return single(alloc, place, format!(in alloc; "{other}")),
-    };
-    single(alloc, place, String::from_str(alloc, words))
+    single(alloc, Place { line, column: 1 }, NamesFault::Plain(fault))
 }
 
-/// Returns the faults of lines that can't be translated, with their messages. A line has the same number in
-/// the plain script.
-fn refusal_faults(alloc: Global, lined: &Lined, refusal: &Refusal) -> NamedFaults {
+/// Returns the faults of lines that can't be translated. A line has the same number in the plain script.
+fn refusal_faults(alloc: Global, lined: &Lined, refusal: Refusal) -> NamedFaults {
     match refusal {
         Refusal::Memory | Refusal::Script(ScriptFault::NoMemory) => Err(AllocError),
-        Refusal::Names(faults) => {
-            let scope = Scope::after(alloc, lined.lines.as_slice())?;
+        Refusal::Names { faults, scope } => {
             let context = lined.context(&scope);
             name_faults(lined.lines.as_slice(), context, faults.as_slice())
         }
-        Refusal::Script(ScriptFault::Line { number, fault }) => line_fault(alloc, *number, *fault),
-        Refusal::Script(fault) => single(alloc, START, format!(in alloc; "{fault}")),
+        Refusal::Script(ScriptFault::Line { number, fault }) => line_fault(alloc, number, fault),
+        Refusal::Script(fault) => single(alloc, START, NamesFault::Script(fault)),
     }
 }
 
 /// Returns whether a fault is about an undefined name that occurs in one of these faulty lines. Such a fault
-/// may only be a consequence of theirs. It is recognized by the words of its message.
-fn follows(fault: &Fault, faulty: &[&[u8]]) -> bool {
-    let mut words = fault.what.as_str().split(' ');
-    let name = match (words.next(), words.next(), words.last()) {
-        (Some(name), Some("isn't"), _) => name,
-        (Some("no"), Some("thread's"), Some(name)) => name,
-        _ => return false,
+/// may only be a consequence of theirs.
+fn follows(fault: &NamesFault, faulty: &[&[u8]]) -> bool {
+    let NamesFault::Name(faulty_name) = fault else {
+        return false;
+    };
+    let Some(name) = faulty_name.undefined() else {
+        return false;
     };
     let is_end = |byte: &u8| !byte.is_ascii_alphanumeric() && !b"_-.".contains(byte);
     let mut lines = faulty.iter();
-    lines.any(|line| line.split(is_end).any(|word| word == name.as_bytes()))
+    lines.any(|line| line
+        .split(is_end)
+        .any(|word| word == name.as_str().as_bytes()))
 }
 
 /// Returns the faults of the names of lines, and then the faults of the names in their expectations.
 fn lined_faults(alloc: Global, lined: &Lined, extent: Extent) -> NamedFaults {
-    let plain = plain_of(alloc, lined.lines.as_slice())?;
-    let context = lined.context(&plain.scope);
-    let mut faults = name_faults(lined.lines.as_slice(), context, plain.faults.as_slice())?;
+    let resolved = resolve(alloc, lined.lines.as_slice())?;
+    let context = lined.context(&resolved.scope);
+    let mut faults = name_faults(lined.lines.as_slice(), context, resolved.faults.as_slice())?;
     let mut unmet = expectation_faults(context, lined.states.as_slice(), extent)?;
     faults.append(&mut unmet)?;
     Ok(faults)
@@ -214,7 +230,7 @@ fn all_faults(alloc: Global, text: &[u8], lined: &mut Lined, extent: Extent) -> 
         faulty.push(Lines(text).nth(number).unwrap_or(&[]))?;
     }
     for fault in lined_faults(alloc, lined, extent)? {
-        if !follows(&fault, faulty.as_slice()) {
+        if !follows(&fault.kind, faulty.as_slice()) {
             lined.faults.push(fault)?;
         }
     }
@@ -236,8 +252,8 @@ pub fn read_so_far(alloc: Global, text: &[u8]) -> Result<NamedReading, AllocErro
 /// Reads the lines of this part of a script.
 fn read_lines(alloc: Global, text: &[u8], extent: Extent) -> Result<NamedReading, AllocError> {
     if text.len() > MOST_TEXT {
-        let what = String::from_str(alloc, "script too long");
-        return single(alloc, START, what).map(NamedReading::Faulty);
+        let kind = NamesFault::Script(ScriptFault::TooLong);
+        return single(alloc, START, kind).map(NamedReading::Faulty);
     }
     let mut lined = lines_behind(alloc, text, 0, 0)?;
     if lined.faults.is_empty() {
@@ -253,16 +269,16 @@ fn read_lined(
     lined: &mut Lined,
     extent: Extent,
 ) -> Result<NamedReading, AllocError> {
-    let translation = match translate(alloc, lined.lines.as_slice()) {
-        Ok(translation) => translation,
-        Err(refusal) => return refusal_faults(alloc, lined, &refusal).map(NamedReading::Faulty),
+    let resolved = match translate(alloc, lined.lines.as_slice()) {
+        Ok(resolved) => resolved,
+        Err(refusal) => return refusal_faults(alloc, lined, refusal).map(NamedReading::Faulty),
     };
     let calls = mem::replace(&mut lined.calls, Vec::new(alloc));
     let states = mem::replace(&mut lined.states, Vec::new(alloc));
     let mut named = NamedScript {
-        text: translation.text,
-        script: translation.script,
-        check: ExpectationCheck::new(alloc, translation.scope, calls, states),
+        text: resolved.text,
+        script: resolved.script,
+        check: ExpectationCheck::new(alloc, resolved.scope, calls, states),
         processes: Vec::new(alloc),
         lines: lined.count,
     };

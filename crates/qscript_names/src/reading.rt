@@ -4,5 +4,6 @@ pub mod calls;
 pub mod completions;
 pub mod forms;
 pub mod operands;
+pub mod results;
 pub mod script;
 pub mod threads;

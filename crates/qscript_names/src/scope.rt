@@ -195,15 +195,6 @@ impl Scope {
         Ok(())
     }
 
-    /// Returns the scope after these lines. A text has far fewer lines than a number of 64 bits can count.
-    pub fn after(alloc: Global, lines: &[NamedLine]) -> Result<Scope, AllocError> {
-        let mut scope = Scope::new(alloc);
-        'lines: for line in lines {
-            scope.add(alloc, line)?;
-        }
-        Ok(scope)
-    }
-
     /// Returns the labels of the lines so far, in order.
     pub fn labels(&self) -> &[Label]
         ensures { result.now ≡ self.now.labels }
@@ -277,7 +268,7 @@ impl Scope {
         ensures { OnOk result (self.new ≡ with_line self.old line.now) }
     {
         match line {
-            NamedLine::Aside(_) => Ok(()),
+            NamedLine::Aside(_) | NamedLine::State(_) => Ok(()),
             NamedLine::Thread(thread) => self.add_thread(alloc, thread),
             NamedLine::Call(call) => {
                 self.calls += 1;

@@ -1,7 +1,7 @@
 //! Unproved: words and layout. Names and line numbers, which are printed in place of numbers.
 
+use crate::context::Context;
 use crate::scope::Scope;
-use crate::wording::Context;
 use qbase::ids::{ProcessNo, ThreadNo};
 use qbase::state::ThreadState;
 use qmodel::open_call::Blocked;

@@ -1,3 +1,4 @@
 pub mod TextLimit
 pub mod Reading
 pub mod Status
+pub mod ResultParts

@@ -8,7 +8,9 @@ pub mod near;
 pub mod parts;
 pub mod place;
 pub mod reading;
+pub mod result_parts;
 pub mod states;
+pub mod text_fault;
 pub mod word;
 
 pub use reading::script::{MOST_TEXT, Script, parse};

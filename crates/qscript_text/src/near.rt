@@ -39,37 +39,14 @@ fn nearest_within<'a>(
     Ok(found)
 }
 
-/// Appends `; did you mean 'NAME'?` with the name that is nearest to a word, and returns whether a name is
-/// near. Among equally near names the first is taken.
-pub fn push_near(
-    alloc: Global,
-    text: &mut String,
-    word: &str,
-    names: &[&str],
-) -> Result<bool, AllocError> {
-    match nearest_within(alloc, word, names, 0)? {
-        Some(near) => {
-            write!(text, "; did you mean '{near}'?")?;
-            Ok(true)
-        }
-        None => Ok(false),
-    }
-}
-
-/// Returns the message `'WORD' WHAT; did you mean 'NEAR'?` about a word that isn't one of `words`. If none of
-/// them is near, the message is `'WORD' WHAT; ALL`.
-pub fn no_such(
+/// Returns the name that is nearest to a word, or `None` if none is near. Among equally near names the first
+/// is taken.
+pub fn nearest<'a>(
     alloc: Global,
     word: &str,
-    words: &[&str],
-    what: &str,
-    all: &str,
-) -> Result<String, AllocError> {
-    let mut text = format!(in alloc; "'{word}' {what}")?;
-    if !push_near(alloc, &mut text, word, words)? {
-        write!(text, "; {all}")?;
-    }
-    Ok(text)
+    names: &[&'a str],
+) -> Result<Option<&'a str>, AllocError> {
+    nearest_within(alloc, word, names, 0)
 }
 
 /// Returns the keyword that is nearest to a word, or `None` if none is near. The word may have capital
@@ -88,28 +65,12 @@ fn nearest_keyword(
 
 /// Returns the name of the call that is nearest to a word. Among equally near names the first of the table is
 /// taken.
-fn near_call(alloc: Global, word: &[u8]) -> Result<Option<&'static str>, AllocError> {
+pub fn near_call(alloc: Global, word: &[u8]) -> Result<Option<&'static str>, AllocError> {
     let mut words = Vec::new(alloc);
     for kind in &LISTED {
         words.push(kind.word())?;
     }
     nearest_keyword(alloc, word, words.as_slice())
-}
-
-/// Returns the message about a word that names no call. It suggests the nearest name, or lists the names of
-/// all calls if none is near.
-pub fn unknown_call(alloc: Global, word: &str) -> Result<String, AllocError> {
-    let mut text = format!(in alloc; "'{word}' isn't a call; ")?;
-    if let Some(near) = near_call(alloc, word.as_bytes())? {
-        write!(text, "did you mean '{near}'?")?;
-        return Ok(text);
-    }
-    text.push_str("the calls are")?;
-    for kind in &LISTED {
-        let name = kind.word();
-        write!(text, " {name}")?;
-    }
-    Ok(text)
 }
 
 /// Returns the first 24 bytes of a word as text, or `?` if they aren't text.

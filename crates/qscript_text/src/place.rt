@@ -3,9 +3,9 @@
 ghost use Rattle.std.specs.Prelude.{◌≡◌};
 ghost use Rattle.qscript_text.specs.declared.place.ReadError.TheVariants.{Memory};
 
-use std::alloc::{AllocError, AllocFailed, Global};
+use crate::text_fault::ByteHint;
+use std::alloc::{AllocError, AllocFailed};
 use std::fmt;
-use thiserror::Error;
 
 /// A place in a text.
 #[derive(Clone, Copy, Debug, PartialEq, Eq)]
@@ -24,48 +24,85 @@ impl fmt::Display for Place {
     }
 }
 
-/// A fault with its place. `what` is the message about it.
-#[derive(Debug, Drop, Error)]
-#[error("{place}: {what}")]
-pub struct Fault {
+/// A fault with its place. Each language has its own kinds of faults.
+#[derive(Drop)]
+pub struct Fault<K> {
     pub place: Place,
-    pub what: String,
+    pub kind: K,
+    /// The hint about the byte at the place, if no line may contain this byte.
+    pub byte: Option<ByteHint>,
+}
+
+impl<K> Fault<K> {
+    /// Returns a fault without a hint about its byte.
+    pub fn new(place: Place, kind: K) -> Fault<K> {
+        Fault {
+            place,
+            kind,
+            byte: None,
+        }
+    }
+
+    /// Returns the fault with the hint about the byte at its place in this line, if no line may contain the
+    /// byte.
+    pub fn with_byte_hint(mut self, line: &[u8]) -> Fault<K> {
+        let at = self.place.column.saturating_sub(1) as usize;
+        let byte = line.get(at).copied().unwrap_or(b' ');
+        if byte != b'\t' && (byte < 0x20 || byte > 0x7e) {
+            self.byte = ByteHint::of(line, at);
+        }
+        self
+    }
+
+    /// Returns the words of the hint about the byte at the place. They come after the words of the kind, and
+    /// are empty if there is no hint.
+    pub fn hint(&self) -> &'static str {
+        self.byte.map_or("", |byte| byte.words())
+    }
+}
+
+impl<K: fmt::Display> fmt::Display for Fault<K> {
+    fn fmt<W: fmt::Write>(&self, f: &mut fmt::Formatter<W>) -> fmt::Result {
+        let Fault { place, kind, .. } = self;
+        let hint = self.hint();
+        write!(f, "{place}: {kind}{hint}")
+    }
 }
 
 /// The reason why a line can't be read.
 #[derive(Drop)]
-pub enum ReadError {
+pub enum ReadError<K> {
     /// There is no memory for the content of the line.
     Memory,
     /// The line has this fault.
-    Fault(Fault),
+    Fault(Fault<K>),
 }
 
-impl From<AllocError> for ReadError {
+impl<K> From<AllocError> for ReadError<K> {
     ghost from_gives = { λ _ e. e ≡ Memory };
 
-    fn from(_e: AllocError) -> ReadError {
+    fn from(_e: AllocError) -> ReadError<K> {
         ReadError::Memory
     }
 }
 
-impl<T: Drop> From<AllocFailed<T>> for ReadError {
+impl<K, T: Drop> From<AllocFailed<T>> for ReadError<K> {
     ghost from_gives = { λ _ e. e ≡ Memory };
 
-    fn from(_e: AllocFailed<T>) -> ReadError {
+    fn from(_e: AllocFailed<T>) -> ReadError<K> {
         ReadError::Memory
     }
 }
 
-/// Returns the fault with this message at a place, or `Memory` if there is no memory for the message.
-pub fn fault_in_words(alloc: Global, place: Place, what: &str) -> ReadError {
-    fault_at(place, String::from_str(alloc, what))
+/// Returns the fault of this kind at a place.
+pub fn fault_at<K>(place: Place, kind: K) -> ReadError<K> {
+    ReadError::Fault(Fault::new(place, kind))
 }
 
-/// Returns the fault with this message at a place, or `Memory` if the message couldn't be allocated.
-pub fn fault_at(place: Place, what: Result<String, AllocError>) -> ReadError {
-    match what {
-        Ok(what) => ReadError::Fault(Fault { place, what }),
+/// Returns the fault of this kind at a place, or `Memory` if the kind couldn't be allocated.
+pub fn fault_made<K>(place: Place, kind: Result<K, AllocError>) -> ReadError<K> {
+    match kind {
+        Ok(kind) => fault_at(place, kind),
         Err(_) => ReadError::Memory,
     }
 }

@@ -66,7 +66,7 @@ impl WorkedScript {
             && self.explained
             && let Some(explanation) = explain(alloc, self.script.as_bytes(), number, fault)?
         {
-            let shown = &explanation.text;
+            let shown = explanation.text(alloc)?;
             write!(text, "{shown}\n")?;
         }
         Ok(text)

@@ -10,7 +10,7 @@ const EXPLAIN: &str =
     "explain: Explain faulty lines, and for script also failed calls and waiting threads";
 
 /// The option that prints JSON: its name and its help.
-const JSON: &str = "json: Print a JSON object in place of each line";
+const JSON: &str = "json: Print an object of JSON in each line";
 
 /// The option that reads names: its name and its help.
 const NAMES_IN: &str = "names-in: Read a script with names, whatever the name of its file";
@@ -124,7 +124,10 @@ fn chart_command<'a>(alloc: Global) -> Build<'a> {
     let to = "Number of the last call to draw";
     let help = "The drawing's file; standard output if missing or -";
     let command = subcommand(alloc, "chart", &CHART)
-        .arg(file(alloc, "The script's file; standard input if missing or -"))?
+        .arg(file(
+            alloc,
+            "The file of the script or the design; standard input if missing or -",
+        ))?
         .arg(option(alloc, "output", "FILE", help).short('o'))?;
     with_flags(alloc, command, &flags)?
         .arg(number(alloc, "from", "N", call, from).default_value("1"))?

@@ -6,9 +6,10 @@ use qkernel::kernel::Kernel;
 use qmodel::call::Call;
 use qscript::fault::{LineFault, ScriptFault};
 use qscript_explain::session::ScriptSession;
+use qscript_names::context::Context;
 use qscript_names::incremental::IncrementalScript;
+use qscript_names::names_fault::NamesFault;
 use qscript_names::scope::Scope;
-use qscript_names::wording::Context;
 use qscript_names::{NamedReading, read_so_far};
 use qscript_text::MOST_TEXT;
 use qscript_text::parts::{Lines, last_line};
@@ -21,12 +22,12 @@ use std::alloc::{AllocError, Global};
 pub enum Accepted {
     /// The lines are added. The bytes are their part of the trace, without the lines of blocked threads. The
     /// faults are the differences from the expectations that weren't reported before.
-    Added(Vec<u8>, Vec<Fault>),
+    Added(Vec<u8>, Vec<Fault<NamesFault>>),
     /// The line with this number isn't a valid line of a plain script. It is counted from the first line of
     /// the sheet.
     Plain(u64, LineFault),
     /// The lines aren't valid lines of a script with names.
-    Named(Vec<Fault>),
+    Named(Vec<Fault<NamesFault>>),
 }
 
 /// Lines with names, as they were read, and their meaning.
@@ -44,6 +45,10 @@ pub struct Transcript {
     alloc: Global,
     session: ScriptSession,
     names: Option<NamedLines>,
+    /// The lines of a plain script, read as lines with names. They are read when a line isn't plain.
+    reader: IncrementalScript,
+    /// The number of bytes of the lines that the reader has read.
+    read: usize,
     /// Whether names are printed, once the lines have them.
     in_names: bool,
     no_names: Scope,
@@ -83,6 +88,15 @@ fn line_count(text: &[u8]) -> usize {
     text.iter().filter(|byte| **byte == b'\n').count()
 }
 
+/// Returns the number of bytes of the first `count` lines of a text.
+fn lines_len(text: &[u8], count: usize) -> usize {
+    let mut lines = Lines(text);
+    for _ in 0..count {
+        lines.next();
+    }
+    text.len().saturating_sub(lines.0.len())
+}
+
 impl NamedLines {
     /// Makes a call, and compares its completions with the expectations of the lines.
     fn make(
@@ -105,7 +119,7 @@ impl NamedLines {
         &mut self,
         session: &mut ScriptSession,
         calls: Vec<(ThreadNo, Call)>,
-    ) -> Result<Vec<Fault>, AllocError> {
+    ) -> Result<Vec<Fault<NamesFault>>, AllocError> {
         for member in self.growing.roster() {
             session.add_member(*member)?;
         }
@@ -117,7 +131,11 @@ impl NamedLines {
     }
 
     /// Adds a line, and adds its content to the run, unless it is faulty. Returns its faults.
-    fn add(&mut self, session: &mut ScriptSession, line: &[u8]) -> Result<Vec<Fault>, AllocError> {
+    fn add(
+        &mut self,
+        session: &mut ScriptSession,
+        line: &[u8],
+    ) -> Result<Vec<Fault<NamesFault>>, AllocError> {
         let read = match self.growing.add(line)? {
             Ok(read) => read,
             Err(faults) => return Ok(faults),
@@ -139,6 +157,8 @@ impl Transcript {
             alloc,
             session: ScriptSession::new(alloc),
             names: None,
+            reader: IncrementalScript::new(alloc),
+            read: 0,
             in_names,
             no_names: Scope::new(alloc),
         }
@@ -188,9 +208,31 @@ impl Transcript {
         if !matches!(plain, Accepted::Plain(..)) {
             return Ok(plain);
         }
-        let named = self.add_named(line)?;
-        let is_plain = matches!(named, Accepted::Named(_)) && !has_signs(line);
-        Ok(if is_plain { plain } else { named })
+        match self.named_faults(line)? {
+            None => {
+                self.forget_read();
+                Ok(self.add_named(line)?)
+            }
+            Some(faults) if has_signs(line) => Ok(Accepted::Named(faults)),
+            Some(_) => Ok(plain),
+        }
+    }
+
+    /// Lets the reader begin again at the first line.
+    fn forget_read(&mut self) {
+        self.reader = IncrementalScript::new(self.alloc);
+        self.read = 0;
+    }
+
+    /// Returns the faults of a line after the lines of a plain script, read as a line with names, or `None`
+    /// if it is valid. Then the reader has it, though it isn't one of the lines.
+    fn named_faults(&mut self, line: &[u8]) -> Result<Option<Vec<Fault<NamesFault>>>, AllocError> {
+        let text = self.session.text();
+        for line in Lines(text.get(self.read..).unwrap_or(&[])) {
+            let _ = self.reader.add(line)?;
+        }
+        self.read = text.len();
+        Ok(self.reader.add(line)?.err())
     }
 
     /// Adds lines of a plain script.
@@ -204,7 +246,7 @@ impl Transcript {
 
     /// Adds a line to a script with names.
     fn add_named_line(&mut self, line: &[u8]) -> Result<Accepted, AllocError> {
-        let shown = line_count(self.trace());
+        let shown = self.trace().len();
         match &mut self.names {
             Some(names) if names.text.len().saturating_add(line.len()) < MOST_TEXT => {
                 let faults = names.add(&mut self.session, line)?;
@@ -218,13 +260,11 @@ impl Transcript {
         }
     }
 
-    /// Returns the outcome of lines that were added. `shown` is the number of lines of the trace before that.
-    fn added(&self, shown: usize, faults: Vec<Fault>) -> Result<Accepted, AllocError> {
-        let mut lines = Lines(self.trace());
-        for _ in 0..shown {
-            lines.next();
-        }
-        Ok(Accepted::Added(Vec::from_slice(self.alloc, lines.0)?, faults))
+    /// Returns the outcome of lines that were added. `shown` is the length of the trace of the lines above
+    /// them.
+    fn added(&self, shown: usize, faults: Vec<Fault<NamesFault>>) -> Result<Accepted, AllocError> {
+        let added = self.trace().get(shown..).unwrap_or(&[]);
+        Ok(Accepted::Added(Vec::from_slice(self.alloc, added)?, faults))
     }
 
     /// Adds lines of a script with names. The script is run again from its first line.
@@ -252,13 +292,14 @@ impl Transcript {
         let faults = names.make_all(&mut session, calls)?;
         self.session = session;
         self.names = Some(names);
-        self.added(shown, faults)
+        self.added(lines_len(self.trace(), shown), faults)
     }
 
     /// Removes the last line that is neither empty nor a comment, and returns it. The lines above it are run
     /// again.
     pub fn undo(&mut self) -> Result<Option<Vec<u8>>, AllocError> {
         if self.names.is_none() {
+            self.forget_read();
             return self.session.undo().map_err(|_| AllocError);
         }
         let Some((start, line)) = last_line(self.text()) else {
@@ -272,7 +313,7 @@ impl Transcript {
     }
 
     /// Returns the differences from the expectations at the end of the lines that weren't reported before.
-    pub fn finish(&mut self) -> Result<Vec<Fault>, AllocError> {
+    pub fn finish(&mut self) -> Result<Vec<Fault<NamesFault>>, AllocError> {
         match &mut self.names {
             Some(names) => names.growing.finish(kernel_of(&self.session)),
             None => Ok(Vec::new(self.alloc)),

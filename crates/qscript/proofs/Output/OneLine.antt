@@ -12,8 +12,7 @@ use Rattle.std.proofs.lemmas.List.Folds.{list_all-append}
 use Rattle.hex.specs.Hex.{lower_digits, encode_with, encode_lower}
 use Rattle.qbase.proofs.Lists.{all_append}
 use Rattle.qmodel.specs.declared.call.Mark.{Mark}
-use Rattle.qscript.specs.Printing.Marks.{mark_words}
-use Rattle.qscript.specs.Printing.State.{state_words}
+use Rattle.qscript_text.specs.ResultParts.{mark_words, state_words}
 use Rattle.qscript.specs.Printing.Printed.{printed}
 use Rattle.qscript.specs.Printing.Buffer.{buffer_word}
 use Rattle.std.specs.Prelude.{if◌then◌else◌}

@@ -1,7 +1,7 @@
 -- The line of a thread that is blocked at the end of a run.
 use Rattle.std.specs.Prelude.{ℕ, List, [], ◌∷◌, ◌++◌, codes, decimal}
 use Rattle.qmodel.specs.declared.open_call.Blocked.{Blocked}
-use Rattle.qscript.specs.Printing.State.{state_words}
+use Rattle.qscript_text.specs.ResultParts.{state_words}
 use Rattle.qscript.specs.Printing.Words.{words_with_spaces}
 
 -- the open call, its thread, and the thread's state and channel

@@ -8,8 +8,8 @@ use Rattle.qmodel.specs.declared.call.Call.TheVariants.{Read, Receive, Send}
 use Rattle.qmodel.specs.declared.call.Completion.{Completion}
 use Rattle.qmodel.specs.declared.open_call.Blocked.{Blocked}
 use Rattle.qmodel.specs.Trace.{Event, Run}
+use Rattle.qscript_text.specs.ResultParts.{mark_words}
 use Rattle.qscript.specs.Printing.Words.{words_with_spaces}
-use Rattle.qscript.specs.Printing.Marks.{mark_words}
 use Rattle.qscript.specs.Printing.Buffer.{buffer_word}
 use Rattle.qscript.specs.Printing.OpenLine.{open_text}
 

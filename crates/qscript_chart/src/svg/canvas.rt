@@ -3,7 +3,7 @@
 use crate::chart::Chart;
 use crate::plan::{Side, words_side};
 use qbase::ids::ThreadNo;
-use qscript_names::wording::Context;
+use qscript_names::context::Context;
 use std::alloc::AllocError;
 
 /// Half the width of a thread's head, if its numbers have one digit each.

@@ -10,8 +10,8 @@ use qkernel::kernel::Kernel;
 use qkernel::open_call::Blocked;
 use qmodel::kind::CallKind;
 use qmodel::operands::OperandKind;
+use qscript_names::context::Context;
 use qscript_names::shown::ShownNames;
-use qscript_names::wording::Context;
 use std::alloc::AllocError;
 
 /// A refused call, with the kernel and the history. The call is the last of the history, and left the kernel

@@ -1,10 +1,11 @@
 //! Compares a run with the expectations of its script, call by call.
 
+use crate::context::Context;
 use crate::expectation::{CallCheck, Expectation, ExpectedCompletion, Follower, StateCheck};
 use crate::expecting::completion_parts::ShownEnd;
 use crate::line::Operand;
+use crate::names_fault::{Difference, FoundEnd, NamesFault};
 use crate::scope::Scope;
-use crate::wording::Context;
 use qbase::bytes::Bytes;
 use qbase::ids::ThreadNo;
 use qbase::state::ThreadState;
@@ -33,7 +34,7 @@ pub struct ExpectationCheck {
     /// The expected results of other calls that weren't complete at that time. An entry is the number of the
     /// call whose line has the expectation, and its index among the followers of that line.
     waiting: Vec<(u64, usize)>,
-    faults: Vec<Fault>,
+    faults: Vec<Fault<NamesFault>>,
 }
 
 /// Returns the number that an operand means, or 0 if it isn't a number.
@@ -53,10 +54,10 @@ fn is_state(name: &str, expected: &str) -> bool {
 }
 
 /// The difference between a result and the expected result, if there is one.
-type Mismatch = Result<Option<Fault>, AllocError>;
+type Mismatch = Result<Option<Fault<NamesFault>>, AllocError>;
 
-fn difference_at(place: Place, what: Result<String, AllocError>) -> Mismatch {
-    Ok(Some(Fault { place, what: what? }))
+fn difference_at(place: Place, difference: Difference) -> Mismatch {
+    Ok(Some(Fault::new(place, NamesFault::Difference(difference))))
 }
 
 impl ExpectationCheck {
@@ -82,13 +83,13 @@ impl ExpectationCheck {
 
     /// Returns the differences that were found since the last call of this function, in the order of their
     /// places.
-    pub fn take_faults(&mut self) -> Result<Vec<Fault>, AllocError> {
+    pub fn take_faults(&mut self) -> Result<Vec<Fault<NamesFault>>, AllocError> {
         let mut faults = mem::replace(&mut self.faults, Vec::new(self.alloc));
         faults.sort_by_key(|fault| (fault.place.line, fault.place.column))?;
         Ok(faults)
     }
 
-    /// Returns the context for messages about names.
+    /// Returns the context for faults of names.
     pub fn context(&self) -> Context<'_> {
         Context {
             alloc: self.alloc,
@@ -97,7 +98,7 @@ impl ExpectationCheck {
         }
     }
 
-    fn tell(&mut self, difference: Option<Fault>) -> Result<(), AllocError> {
+    fn tell(&mut self, difference: Option<Fault<NamesFault>>) -> Result<(), AllocError> {
         if let Some(fault) = difference {
             self.faults.push(fault)?;
         }
@@ -190,34 +191,34 @@ impl ExpectationCheck {
         };
         match &check.own {
             Some(own)
-                if matches!(own.completion, ExpectedCompletion::Parts(_)) || end.event == call => {
-                self.difference(end, own)
-            }
+                if matches!(own.completion, ExpectedCompletion::Completed(_))
+                    || end.event == call => { self.difference(end, own) }
             _ => self.silent_difference(call, check, end),
         }
     }
 
     /// Returns the difference between a completion and the expected result.
     fn difference(&self, end: &ShownEnd, expectation: &Expectation) -> Mismatch {
-        if let ExpectedCompletion::Parts(patterns) = &expectation.completion
-            && end.fits(self.context(), patterns.as_slice())?
+        if let ExpectedCompletion::Completed(pattern) = &expectation.completion
+            && end.fits(&self.scope, pattern)
         {
             return Ok(None);
         }
-        let expected = &expectation.text;
-        let came = self.came(end, expectation.place.line)?;
-        let what = format!(in self.alloc; "expected {expected}, found {came}");
-        difference_at(expectation.place, what)
+        let expected = expectation.text.copied(self.alloc)?;
+        let found = self.found(end, expectation.place.line)?;
+        difference_at(
+            expectation.place,
+            Difference::Completion { expected, found },
+        )
     }
 
     /// Returns the completion, and the line of the call that caused it, if that isn't this line.
-    fn came(&self, end: &ShownEnd, here: u64) -> Result<String, AllocError> {
-        let came = end.told(self.context())?;
+    fn found(&self, end: &ShownEnd, here: u64) -> Result<FoundEnd, AllocError> {
         let line = self.line_of(end.event);
-        if line == here {
-            return Ok(came);
-        }
-        format!(in self.alloc; "{came} (line {line})")
+        Ok(FoundEnd {
+            completion: end.told(self.context())?,
+            line: (line != here).then_some(line),
+        })
     }
 
     /// Returns the failure of a call, if no line expects it.
@@ -225,10 +226,9 @@ impl ExpectationCheck {
         if !matches!(end.mark, Mark::Failed(_)) || self.is_followed(call, end.event) {
             return Ok(None);
         }
-        let verb = check.kind.word();
-        let came = self.came(end, check.place.line)?;
-        let what = format!(in self.alloc; "expected '{verb}' not to fail, found {came}");
-        difference_at(check.place, what)
+        let call = check.kind.word();
+        let found = self.found(end, check.place.line)?;
+        difference_at(check.place, Difference::Failure { call, found })
     }
 
     /// Returns whether the line of the call that completed this call has an expectation for it.
@@ -257,7 +257,7 @@ impl ExpectationCheck {
                 self.tell(difference)?;
             } else if matches!(
                 follower.expectation.completion,
-                ExpectedCompletion::Parts(_)
+                ExpectedCompletion::Completed(_)
             ) {
                 self.waiting.push((line, place))?;
             }
@@ -280,13 +280,12 @@ impl ExpectationCheck {
         {
             return self.difference(end, &follower.expectation);
         }
-        let came = self.came(end, follower.place.line)?;
-        let name = &follower.name;
-        let expected = &follower.expectation.text;
-        let what = format!(in self.alloc;
-            "expected {name} to complete here with {expected}, found {came}"
-        );
-        difference_at(follower.place, what)
+        let difference = Difference::Elsewhere {
+            name: follower.name.copied(self.alloc)?,
+            expected: follower.expectation.text.copied(self.alloc)?,
+            found: self.found(end, follower.place.line)?,
+        };
+        difference_at(follower.place, difference)
     }
 
     /// Returns the difference between the present state of a thread and the state in a line.
@@ -306,10 +305,9 @@ impl ExpectationCheck {
         if is_state(state_name(now), check.state) && expected == channel {
             return Ok(None);
         }
-        let is = self.context().state(&now)?;
-        let expected = &check.text;
-        let what = format!(in self.alloc; "expected {expected}, found {is}");
-        difference_at(check.place, what)
+        let expected = check.text.copied(self.alloc)?;
+        let found = self.context().state(&now)?;
+        difference_at(check.place, Difference::State { expected, found })
     }
 
     /// Adds a line for each of these completions of the latest call. The line has the line number of that
@@ -365,10 +363,7 @@ impl ExpectationCheck {
         let mut blocked = blocked.iter();
         let open = blocked.find(|blocked| blocked.number == call);
         let state = state_name(open.map_or(ThreadState::Ready, |open| open.state));
-        let expected = &expectation.text;
-        let what = format!(in self.alloc;
-            "expected {expected}, found no completion: the thread is {state} at the end"
-        );
-        difference_at(expectation.place, what)
+        let expected = expectation.text.copied(self.alloc)?;
+        difference_at(expectation.place, Difference::Open { expected, state })
     }
 }

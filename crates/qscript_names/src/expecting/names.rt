@@ -1,11 +1,12 @@
 //! Checks the names in a script's expectations.
 
+use crate::context::Context;
 use crate::expectation::{
-    CallCheck, Expectation, ExpectedCompletion, ExpectedResult, Extent, StateCheck,
+    CallCheck, Expectation, ExpectedCompletion, Extent, NumberPattern, StateCheck,
 };
 use crate::label::NameError;
 use crate::line::{LineKind, NameMention, Operand};
-use crate::wording::{Context, Usage};
+use crate::names_fault::{FaultyName, NameUsage, NamesFault};
 use qscript_text::place::{Fault, Place};
 use qscript_text::word::Word;
 use std::alloc::AllocError;
@@ -15,7 +16,7 @@ use std::alloc::AllocError;
 pub struct NameCheck<'a> {
     context: Context<'a>,
     extent: Extent,
-    pub faults: Vec<Fault>,
+    pub faults: Vec<Fault<NamesFault>>,
     /// Whether a name in an expected result isn't defined yet.
     pub is_open: bool,
 }
@@ -47,18 +48,22 @@ impl<'a> NameCheck<'a> {
             Some(label) if may_stand(label.kind, expected) => return Ok(()),
             Some(label) => NameError::OtherKind(label.kind),
         };
-        let what = self
-            .context
-            .words(name, Usage::Expectation, expected, error)?;
-        self.faults.push(Fault { place, what })?;
+        let usage = NameUsage::Expectation;
+        let faulty = self.context.faulty_name(name, usage, expected, error)?;
+        self.add(place, faulty)
+    }
+
+    /// Adds the fault of a name at a place.
+    fn add(&mut self, place: Place, name: FaultyName) -> Result<(), AllocError> {
+        self.faults.push(Fault::new(place, NamesFault::Name(name)))?;
         Ok(())
     }
 
     /// Checks the name of a process.
     fn process(&mut self, place: Place, name: &Word) -> Result<(), AllocError> {
         if self.context.scope.process_named(name) == 0 {
-            let what = format!(in self.context.alloc; "no thread's line names a process {name}")?;
-            self.faults.push(Fault { place, what })?;
+            let name = name.copied(self.context.alloc)?;
+            return self.add(place, FaultyName::UndefinedProcess(name));
         }
         Ok(())
     }
@@ -74,20 +79,25 @@ impl<'a> NameCheck<'a> {
 
     /// Checks the names in an expected result.
     fn expectation(&mut self, expectation: &Expectation) -> Result<(), AllocError> {
-        let ExpectedCompletion::Parts(patterns) = &expectation.completion else {
+        let ExpectedCompletion::Completed(pattern) = &expectation.completion else {
             return Ok(());
         };
-        for pattern in patterns {
-            match pattern {
-                ExpectedResult::Named(mention) => self.completion(mention)?,
-                ExpectedResult::Process(name) => self.process(expectation.place, name)?,
-                ExpectedResult::Word(_)
-                | ExpectedResult::Number(_)
-                | ExpectedResult::Front(_)
-                | ExpectedResult::Any => {}
-            }
+        for number in &pattern.head {
+            self.number(expectation.place, number)?;
+        }
+        for number in &pattern.numbers {
+            self.number(expectation.place, number)?;
         }
         Ok(())
+    }
+
+    /// Checks the name in the pattern of a number, if it has one.
+    fn number(&mut self, place: Place, pattern: &NumberPattern) -> Result<(), AllocError> {
+        match pattern {
+            NumberPattern::Named(mention) => self.completion(mention),
+            NumberPattern::Process(name) => self.process(place, name),
+            NumberPattern::Number(_) | NumberPattern::Any => Ok(()),
+        }
     }
 
     /// Checks the names in the expectations of the line of a call.

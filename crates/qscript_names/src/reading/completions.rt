@@ -4,12 +4,13 @@
 ghost use Rattle.std.specs.Prelude.{◌≤◌, length};
 
 use crate::expectation::{CallCheck, Expectation, Follower};
-use crate::reading::forms::completion;
+use crate::names_fault::{MissingPart, NamesExpected, NamesRead, expected, missing};
+use crate::reading::results::completion;
 use qmodel::kind::CallKind;
 use qscript_text::lexing::name::is_name;
 use qscript_text::lexing::token::{Token, TokenKind};
-use qscript_text::lexing::values::{expected, word_of};
-use qscript_text::place::{Place, ReadError, fault_in_words};
+use qscript_text::lexing::values::word_of;
+use qscript_text::place::Place;
 use qscript_text::word::Word;
 use std::alloc::{AllocError, Global};
 
@@ -30,10 +31,9 @@ fn expectation(
     arrow: &Token<'_>,
     tokens: &[Token<'_>],
     line: &[u8],
-) -> Result<Expectation, ReadError> {
+) -> NamesRead<Expectation> {
     let [word, rest @ ..] = tokens else {
-        let what = "expected a completion after '->', as in -> ok";
-        return Err(fault_in_words(alloc, arrow.behind(), what));
+        return Err(missing(arrow.behind(), MissingPart::Completion));
     };
     Ok(Expectation {
         completion: completion(alloc, word, rest)?,
@@ -48,16 +48,15 @@ fn follower(
     semicolon: &Token<'_>,
     tokens: &[Token<'_>],
     line: &[u8],
-) -> Result<Follower, ReadError> {
+) -> NamesRead<Follower> {
     let [name, arrow, rest @ ..] = tokens else {
-        let what = "expected 'NAME -> COMPLETION' after ';'";
-        return Err(fault_in_words(alloc, semicolon.behind(), what));
+        return Err(missing(semicolon.behind(), MissingPart::Follower));
     };
     if name.sort != TokenKind::Word || !is_name(name.bytes) {
-        return Err(expected(alloc, name, "expected a call's name"));
+        return Err(expected(alloc, name, NamesExpected::CallName));
     }
     if arrow.sort != TokenKind::Arrow {
-        return Err(expected(alloc, arrow, "expected '->'"));
+        return Err(expected(alloc, arrow, NamesExpected::Arrow));
     }
     Ok(Follower {
         name: word_of(alloc, name.bytes)?,
@@ -84,7 +83,7 @@ pub fn completions_in(
     place: Place,
     tokens: &[Token<'_>],
     line: &[u8],
-) -> Result<CallCheck, ReadError> {
+) -> NamesRead<CallCheck> {
     let (first, mut rest) = tokens.split_at(semicolon_at(tokens));
     let own = match first {
         [arrow, words @ ..] => Some(expectation(alloc, arrow, words, line)?),

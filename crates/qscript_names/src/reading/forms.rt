@@ -1,31 +1,16 @@
-//! Reads the expected result of a call: its first word, and the parts that may follow this word.
+//! The forms of results: the words of each kind of result, and the parts that a pattern may have after them.
+//! The patterns of scripts with names and of designs have these forms.
 
-ghost use Rattle.std.specs.Prelude.{◌≤◌, length};
+use crate::line::LineKind;
+use qexplore_programs::pattern::ResultKind;
+use qscript_text::lexing::token::Token;
 
-use crate::expectation::{ExpectedCompletion, ExpectedResult};
-use crate::hints::{error_words, number_words};
-use crate::line::{LineKind, Operand};
-use crate::reading::operands::id;
-use qbase::bytes::Bytes;
-use qbase::errno;
-use qbase::errno::ERRNOS;
-use qscript_text::fault::ParseError;
-use qscript_text::grammar::{CALL_ERRORS, OperandKind as Slot, errno_of};
-use qscript_text::lexing::name::is_name;
-use qscript_text::lexing::token::{Token, TokenKind};
-use qscript_text::lexing::values::{expected, size_of, text_bytes, word_of};
-use qscript_text::near::{no_such, quotation};
-use qscript_text::place::{ReadError, fault_at};
-use qscript_text::reading::bytes::bytes_said;
-use qscript_text::reading::number::signed_number;
-use std::alloc::{AllocError, Global};
-
-/// The sort of a part after the first word of a result.
+/// A part of a pattern after the words of the result.
 #[derive(Clone, Copy)]
-enum Part {
+pub enum Part {
     /// The word of an error.
     Errno,
-    /// A name, or a number.
+    /// The name or the number of an object.
     Id(LineKind),
     /// The name or the number of a process.
     Process,
@@ -37,241 +22,90 @@ enum Part {
     Buffer,
 }
 
-/// The results: the first word of each, and the parts that may follow it. The content of a pulse and the
-/// state of a thread have their own tables.
-static FORMS: [(&str, &[Part]); 12] = [
-    ("ok", &[]),
-    ("fail", &[Part::Errno]),
-    ("blocked", &[]),
-    ("channel", &[Part::Id(LineKind::Channel)]),
-    ("connection", &[Part::Id(LineKind::Connection)]),
-    ("message", &[Part::Id(LineKind::Message), Part::Content]),
-    ("pulse", &[Part::Id(LineKind::Pulse), Part::Number]),
-    ("reply", &[Part::Number, Part::Content]),
-    ("error", &[Part::Number]),
-    ("count", &[Part::Number, Part::Buffer]),
-    ("state", &[]),
+/// The form of a pattern after its words.
+#[derive(Clone, Copy)]
+pub struct ResultForm {
+    /// The kind of the result. `None` if the call doesn't complete.
+    pub kind: Option<ResultKind>,
+    /// The parts of this kind. The last ones may be left out.
+    pub parts: &'static [Part],
+}
+
+const CHANNEL: Part = Part::Id(LineKind::Channel);
+
+const CONNECTION: Part = Part::Id(LineKind::Connection);
+
+const MESSAGE: Part = Part::Id(LineKind::Message);
+
+const PULSE: Part = Part::Id(LineKind::Pulse);
+
+const THREAD: Part = Part::Id(LineKind::Thread);
+
+const NUMBER: Part = Part::Number;
+
+/// Words, the kind of result that each of them names, and the parts of this kind.
+pub type FormTable = &'static [(&'static str, Option<ResultKind>, &'static [Part])];
+
+/// The first words of results. The content of a pulse and the state of a thread have their own tables.
+pub static FORMS: [(&str, Option<ResultKind>, &[Part]); 12] = [
+    ("ok", Some(ResultKind::Ok), &[]),
+    ("fail", Some(ResultKind::Failed(None)), &[Part::Errno]),
+    ("blocked", None, &[]),
+    ("channel", Some(ResultKind::Channel), &[CHANNEL]),
+    ("connection", Some(ResultKind::Connection), &[CONNECTION]),
+    ("message", Some(ResultKind::Message), &[Part::Content]),
+    ("pulse", Some(ResultKind::Pulse), &[]),
+    ("reply", Some(ResultKind::Replied), &[NUMBER, Part::Content]),
+    ("error", Some(ResultKind::Errored), &[NUMBER]),
+    ("count", Some(ResultKind::Count), &[NUMBER, Part::Buffer]),
+    ("state", Some(ResultKind::State), &[]),
     (
         "info",
+        Some(ResultKind::Info),
         &[
             Part::Process,
-            Part::Id(LineKind::Thread),
-            Part::Id(LineKind::Connection),
-            Part::Number,
-            Part::Number,
-            Part::Number,
-            Part::Number,
+            THREAD,
+            CONNECTION,
+            NUMBER,
+            NUMBER,
+            NUMBER,
+            NUMBER,
         ],
     ),
 ];
 
-/// The contents of a pulse, by their first word.
-static PULSES: [(&str, &[Part]); 3] = [
-    ("user", &[Part::Number, Part::Number]),
-    ("unblock", &[Part::Id(LineKind::Message)]),
-    ("disconnect", &[Part::Process]),
+/// The contents of a pulse.
+pub static PULSES: [(&str, Option<ResultKind>, &[Part]); 3] = [
+    ("user", Some(ResultKind::UserPulse), &[NUMBER, NUMBER]),
+    ("unblock", Some(ResultKind::UnblockPulse), &[MESSAGE]),
+    (
+        "disconnect",
+        Some(ResultKind::DisconnectPulse),
+        &[Part::Process],
+    ),
 ];
 
-/// The states of a thread, by their first word.
-static STATES: [(&str, &[Part]); 4] = [
-    ("ready", &[Part::Number]),
-    ("send", &[Part::Id(LineKind::Channel), Part::Number]),
-    ("receive", &[Part::Id(LineKind::Channel), Part::Number]),
-    ("reply", &[Part::Id(LineKind::Channel), Part::Number]),
+/// The states of a thread.
+pub static STATES: [(&str, Option<ResultKind>, &[Part]); 4] = [
+    ("ready", Some(ResultKind::Ready), &[NUMBER]),
+    ("send", Some(ResultKind::SendBlocked), &[CHANNEL, NUMBER]),
+    (
+        "receive",
+        Some(ResultKind::ReceiveBlocked),
+        &[CHANNEL, NUMBER],
+    ),
+    ("reply", Some(ResultKind::ReplyBlocked), &[CHANNEL, NUMBER]),
 ];
 
-/// First words, and the parts that may follow each of them.
-type Table = &'static [(&'static str, &'static [Part])];
+/// The parts of a message that the kind `Message` doesn't have: its id.
+pub static MESSAGE_HEAD: [Part; 1] = [MESSAGE];
 
-/// Returns the row of a table that begins with this word: the word, and the parts that may follow it.
-fn form_of(table: Table, token: &Token<'_>) -> Option<(&'static str, &'static [Part])> {
-    let mut rows = table.iter().copied();
-    rows.find(|(word, _)| token.is_word(word))
-}
+/// The parts of a pulse that its kind doesn't have: the call that sent it, and its priority.
+pub static PULSE_HEAD: [Part; 2] = [PULSE, NUMBER];
 
-fn number(alloc: Global, token: &Token<'_>) -> Result<i128, ReadError> {
-    match signed_number(token.bytes) {
-        Some(value) if token.sort == TokenKind::Word => Ok(value),
-        _ => {
-            let words = number_words(alloc, token.bytes)?;
-            Err(expected(alloc, token, words.as_str()))
-        }
-    }
-}
-
-/// Reads the name of an error.
-fn errno(alloc: Global, token: &Token<'_>) -> Result<&'static str, ReadError> {
-    if token.sort == TokenKind::Word
-        && let Some(errno) = errno_of(token.bytes)
-    {
-        return Ok(errno::word(errno));
-    }
-    let errors = ERRNOS.iter().take(CALL_ERRORS);
-    let words: Vec<&str> = errors.map(|errno| errno::word(*errno)).collect(alloc)?;
-    let word = quotation(token.bytes);
-    let all = error_words(alloc, token.bytes)?;
-    let what = no_such(
-        alloc,
-        word,
-        words.as_slice(),
-        "isn't an error",
-        all.as_str(),
-    );
-    Err(fault_at(token.place, what))
-}
-
-/// Reads a name, which matches its number, or reads a number.
-fn named(alloc: Global, kind: LineKind, token: &Token<'_>) -> Result<ExpectedResult, ReadError> {
-    if token.bytes.first().is_some_and(|b| b.is_ascii_digit()) {
-        return Ok(ExpectedResult::Number(number(alloc, token)?));
-    }
-    match id(alloc, kind, Slot::Offset, token)? {
-        Operand::Name(mention) => Ok(ExpectedResult::Named(mention)),
-        _ => Ok(ExpectedResult::Any),
-    }
-}
-
-/// Reads the name or the number of a process.
-fn process(alloc: Global, token: &Token<'_>) -> Result<ExpectedResult, ReadError> {
-    if token.sort == TokenKind::Word && is_name(token.bytes) {
-        return Ok(ExpectedResult::Process(word_of(alloc, token.bytes)?));
-    }
-    Ok(ExpectedResult::Number(number(alloc, token)?))
-}
-
-fn bytes(alloc: Global, token: &Token<'_>) -> Result<Bytes, ReadError> {
-    let said = match token.sort {
-        TokenKind::Text => return text_bytes(alloc, token),
-        TokenKind::Size => return Ok(Bytes::filled(alloc, 0, size_of(alloc, token)? as usize)?),
-        TokenKind::Word => bytes_said(alloc, token.bytes),
-        _ => Err(ParseError::Memory),
-    };
-    said.map_err(|_| expected(alloc, token, "expected bytes, or * for any"))
-}
-
-/// The patterns of a result.
-#[derive(Drop)]
-struct Patterns {
-    alloc: Global,
-    all: Vec<ExpectedResult>,
-}
-
-impl Patterns {
-    /// Adds the patterns of a part of a line. `Content` has two patterns: the printed count, and the bytes.
-    fn add(&mut self, part: Part, token: &Token<'_>) -> Result<(), ReadError> {
-        let alloc = self.alloc;
-        let pattern = match part {
-            _ if token.is_word("*") => Ok(ExpectedResult::Any),
-            Part::Errno => errno(alloc, token).map(ExpectedResult::Word),
-            Part::Id(kind) => named(alloc, kind, token),
-            Part::Process => process(alloc, token),
-            Part::Number => number(alloc, token).map(ExpectedResult::Number),
-            Part::Content => {
-                let content = bytes(alloc, token)?;
-                self.all
-                    .push(ExpectedResult::Number(content.len() as i128))?;
-                Ok(ExpectedResult::Front(content))
-            }
-            Part::Buffer => bytes(alloc, token).map(ExpectedResult::Front),
-        };
-        self.all.push(pattern?)?;
-        Ok(())
-    }
-
-    /// Adds the pattern of this word, and the patterns of the parts that follow it. The last parts may be
-    /// left out.
-    fn add_word(
-        &mut self,
-        word: &'static str,
-        parts: &[Part],
-        rest: &[Token<'_>],
-    ) -> Result<(), ReadError> {
-        self.all.push(ExpectedResult::Word(word))?;
-        if let Some(extra) = rest.get(parts.len()) {
-            return Err(expected(
-                self.alloc,
-                extra,
-                "expected no more words in this completion",
-            ));
-        }
-        for (part, token) in parts.iter().zip(rest) {
-            self.add(*part, token)?;
-        }
-        Ok(())
-    }
-
-    /// Adds the patterns of a word of a table and of the parts after it, or nothing if there are no tokens.
-    /// `words` is the message about a word that isn't in the table.
-    fn add_of(&mut self, table: Table, tokens: &[Token<'_>], words: &str) -> Result<(), ReadError> {
-        let [word, rest @ ..] = tokens else {
-            return Ok(());
-        };
-        match form_of(table, word) {
-            Some((word, parts)) => self.add_word(word, parts, rest),
-            None => Err(expected(self.alloc, word, words)),
-        }
-    }
-
-    /// Adds the patterns of the result `state`. The state of the thread may be left out.
-    fn add_state(&mut self, word: &'static str, content: &[Token<'_>]) -> Result<(), ReadError> {
-        self.add_word(word, &[], &[])?;
-        self.add_of(&STATES, content, "expected ready, send, receive or reply")
-    }
-
-    /// Adds the patterns of a pulse: its call and its priority, which may be left out, and its content.
-    fn add_pulse(&mut self, parts: &[Part], tokens: &[Token<'_>]) -> Result<(), ReadError> {
-        let (front, content) = tokens.split_at(pulse_len(tokens));
-        self.add_word("pulse", parts, front)?;
-        for _ in front.len()..parts.len() {
-            self.all.push(ExpectedResult::Any)?;
-        }
-        self.add_of(&PULSES, content, "expected user, unblock or disconnect")
-    }
-}
-
-/// Returns the number of parts before the content of a pulse, at most two.
-fn pulse_len(tokens: &[Token<'_>]) -> usize
-    ensures { result ≤ length tokens.now }
-{
-    match tokens {
-        [] => 0,
-        [first, ..] if form_of(&PULSES, first).is_some() => 0,
-        [_] => 1,
-        [_, second, ..] if form_of(&PULSES, second).is_some() => 1,
-        _ => 2,
-    }
-}
-
-/// Returns the message about a first word that no result has.
-fn unknown_completion(alloc: Global, token: &Token<'_>) -> Result<String, AllocError> {
-    let words: Vec<&str> = FORMS.iter().map(|(word, _)| *word).collect(alloc)?;
-    let word = quotation(token.bytes);
-    let all =
-        "expected ok, fail, channel, connection, message, pulse, reply, error, count, state, info or blocked";
-    no_such(alloc, word, words.as_slice(), "isn't a completion", all)
-}
-
-/// Reads the expected result of a call.
-pub fn completion(
-    alloc: Global,
-    first: &Token<'_>,
-    rest: &[Token<'_>],
-) -> Result<ExpectedCompletion, ReadError> {
-    let Some((word, parts)) = form_of(&FORMS, first) else {
-        return Err(fault_at(first.place, unknown_completion(alloc, first)));
-    };
-    let mut patterns = Patterns {
-        alloc,
-        all: Vec::new(alloc),
-    };
-    let added = match word {
-        "pulse" => patterns.add_pulse(parts, rest),
-        "state" => patterns.add_state(word, rest),
-        _ => patterns.add_word(word, parts, rest),
-    };
-    added?;
-    if word == "blocked" {
-        return Ok(ExpectedCompletion::Blocked);
-    }
-    Ok(ExpectedCompletion::Parts(patterns.all))
+/// Returns the form of a table that this word names.
+pub fn form_of(table: FormTable, token: &Token<'_>) -> Option<ResultForm> {
+    let mut forms = table.iter().copied();
+    let (_, kind, parts) = forms.find(|(word, _, _)| token.is_word(word))?;
+    Some(ResultForm { kind, parts })
 }

@@ -1,64 +1,58 @@
 //! Reads the operands of a call.
 
-use crate::hints::{push_operand_hint, text_hint};
+use crate::hints::words::ExpectedOperand;
+use crate::hints::{bytes_hint, flags_meant, operand_hint};
 use crate::line::{LineKind, NameMention, Operand};
-use qscript_text::grammar::{FLAGS, OperandKind as Slot, expected_words, fault_of};
+use crate::names_fault::{NamesExpected, NamesFault, NamesRead, expected, of_text};
+use qscript_text::grammar::{FLAGS, OperandKind as Slot, fault_of};
 use qscript_text::lexing::name::is_name;
 use qscript_text::lexing::token::{Token, TokenKind};
-use qscript_text::lexing::values::{expected, size_of, text_bytes, word_of};
-use qscript_text::near::{no_such, quotation};
-use qscript_text::place::{ReadError, fault_at};
+use qscript_text::lexing::values::{size_of, text_bytes, word_of};
+use qscript_text::place::fault_at;
+use qscript_text::text_fault::UnknownWord;
 use qscript_text::word::Word;
 use std::alloc::Global;
 
 /// Reads a word in the notation of plain scripts.
-pub fn plain_word(alloc: Global, slot: Slot, token: &Token<'_>) -> Result<Word, ReadError> {
+pub fn plain_word(alloc: Global, slot: Slot, token: &Token<'_>) -> NamesRead<Word> {
     if token.sort != TokenKind::Word || fault_of(alloc, slot, token.bytes)?.is_some() {
-        let mut what = String::from_str(alloc, expected_words(slot))?;
-        push_operand_hint(&mut what, slot, token.bytes)?;
-        return Err(expected(alloc, token, what.as_str()));
+        let hint = operand_hint(alloc, slot, token.bytes)?;
+        let operand = ExpectedOperand { sort: slot, hint };
+        return Err(expected(alloc, token, NamesExpected::Operand(operand)));
     }
     Ok(word_of(alloc, token.bytes)?)
 }
 
 /// Reads bytes: a text, a number of zeros, or a word in the notation of plain scripts.
-fn bytes(alloc: Global, slot: Slot, token: &Token<'_>) -> Result<Operand, ReadError> {
+fn bytes(alloc: Global, slot: Slot, token: &Token<'_>) -> NamesRead<Operand> {
     match token.sort {
-        TokenKind::Text => Ok(Operand::Text(text_bytes(alloc, token)?)),
-        TokenKind::Size => Ok(Operand::Zeros(size_of(alloc, token)?)),
+        TokenKind::Text => Ok(Operand::Text(text_bytes(alloc, token).map_err(of_text)?)),
+        TokenKind::Size => Ok(Operand::Zeros(size_of(alloc, token).map_err(of_text)?)),
         TokenKind::Word if fault_of(alloc, slot, token.bytes)?.is_none() => {
             Ok(Operand::Plain(word_of(alloc, token.bytes)?))
         }
         _ => {
-            let hint = text_hint(token.bytes);
-            let what = format!(in alloc;
-                "expected bytes: a text in quotes, [N] for N zeros, pairs of hexadecimal digits (0aff), up to 4,096 equal ones (16x00), or - for none{hint}"
-            )?;
-            Err(expected(alloc, token, what.as_str()))
+            let hint = bytes_hint(token.bytes);
+            Err(expected(alloc, token, NamesExpected::Bytes(hint)))
         }
     }
 }
 
 /// Returns the bit of the flag with this name.
-fn flag(alloc: Global, token: &Token<'_>, name: &[u8]) -> Result<u8, ReadError> {
+fn flag(alloc: Global, token: &Token<'_>, name: &[u8]) -> NamesRead<u8> {
     if let Some((_, bit)) = FLAGS.iter().find(|(flag, _)| name == flag.as_bytes()) {
         return Ok(*bit);
     }
-    let names: Vec<&str> = FLAGS.iter().map(|(flag, _)| *flag).collect(alloc)?;
-    let all = "expected FIXED_PRIORITY, UNBLOCK and DISCONNECT, with | between, or 0 for none";
-    let mut what = no_such(
-        alloc,
-        quotation(name),
-        names.as_slice(),
-        "isn't a flag",
-        all,
-    )?;
-    push_operand_hint(&mut what, Slot::Flags, token.bytes)?;
-    Err(fault_at(token.place, Ok(what)))
+    let names: Vec<&'static str> = FLAGS.iter().map(|(flag, _)| *flag).collect(alloc)?;
+    let unknown = UnknownWord::of(alloc, name, names.as_slice())?;
+    Err(fault_at(
+        token.place,
+        NamesFault::Flag(unknown, flags_meant(token.bytes)),
+    ))
 }
 
 /// Reads flags: their names with `|` between, or a number.
-fn flags(alloc: Global, token: &Token<'_>) -> Result<Operand, ReadError> {
+fn flags(alloc: Global, token: &Token<'_>) -> NamesRead<Operand> {
     if token.sort != TokenKind::Word || is_numeric(token) {
         return Ok(Operand::Plain(plain_word(alloc, Slot::Flags, token)?));
     }
@@ -75,19 +69,12 @@ pub fn is_numeric(token: &Token<'_>) -> bool {
 }
 
 /// Reads a name, or a number in the notation of plain scripts.
-pub fn id(
-    alloc: Global,
-    kind: LineKind,
-    slot: Slot,
-    token: &Token<'_>,
-) -> Result<Operand, ReadError> {
+pub fn id(alloc: Global, kind: LineKind, slot: Slot, token: &Token<'_>) -> NamesRead<Operand> {
     if is_numeric(token) {
         return Ok(Operand::Plain(plain_word(alloc, slot, token)?));
     }
     if token.sort != TokenKind::Word || !is_name(token.bytes) {
-        let kind = kind.words();
-        let what = format!(in alloc; "expected {kind}'s name or number")?;
-        return Err(expected(alloc, token, what.as_str()));
+        return Err(expected(alloc, token, NamesExpected::Id(kind)));
     }
     Ok(Operand::Name(NameMention {
         name: word_of(alloc, token.bytes)?,
@@ -97,7 +84,7 @@ pub fn id(
 }
 
 /// Reads a part of a line as an operand of this sort.
-pub fn operand(alloc: Global, slot: Slot, token: &Token<'_>) -> Result<Operand, ReadError> {
+pub fn operand(alloc: Global, slot: Slot, token: &Token<'_>) -> NamesRead<Operand> {
     match slot {
         Slot::Thread => id(alloc, LineKind::Thread, slot, token),
         Slot::Channel => id(alloc, LineKind::Channel, slot, token),

@@ -1,27 +1,33 @@
 //! Reads the line of a thread, and a line with the state of a thread.
 
 use crate::expectation::StateCheck;
+use crate::hints::words::ExpectedOperand;
 use crate::line::{Definition, Operand, Process, ThreadLine};
+use crate::names_fault::{MissingPart, NamesExpected, NamesFault, NamesRead, expected, missing};
 use crate::reading::operands::{operand, plain_word};
-use qscript_text::grammar::{OperandKind as Slot, expected_words};
+use qscript_text::grammar::OperandKind as Slot;
 use qscript_text::lexing::name::is_name;
 use qscript_text::lexing::token::{Token, TokenKind};
-use qscript_text::lexing::values::{expected, word_of};
-use qscript_text::place::{Place, ReadError, fault_at, fault_in_words};
+use qscript_text::lexing::values::word_of;
+use qscript_text::place::{Place, fault_at};
 use qscript_text::reading::number::small;
 use qscript_text::word::Word;
 use std::alloc::Global;
 
 /// Reads the number of a thread, if its line gives one.
-fn thread_number(alloc: Global, token: &Token<'_>) -> Result<u64, ReadError> {
+fn thread_number(alloc: Global, token: &Token<'_>) -> NamesRead<u64> {
     match small(token.bytes) {
         Ok(number) if token.sort == TokenKind::Word => Ok(u64::from(number)),
-        _ => Err(expected(alloc, token, expected_words(Slot::Thread))),
+        _ => {
+            let (sort, hint) = (Slot::Thread, None);
+            let operand = ExpectedOperand { sort, hint };
+            Err(expected(alloc, token, NamesExpected::Operand(operand)))
+        }
     }
 }
 
 /// Reads the process of a thread: a name or a number.
-fn process(alloc: Global, token: &Token<'_>) -> Result<Process, ReadError> {
+fn process(alloc: Global, token: &Token<'_>) -> NamesRead<Process> {
     if token.sort == TokenKind::Word {
         if let Ok(number) = small(token.bytes) {
             return Ok(Process::Number(u64::from(number)));
@@ -30,16 +36,7 @@ fn process(alloc: Global, token: &Token<'_>) -> Result<Process, ReadError> {
             return Ok(Process::Name(word_of(alloc, token.bytes)?));
         }
     }
-    let what = "expected a process's name, or a number from 0 to 255";
-    Err(expected(alloc, token, what))
-}
-
-/// Returns the fault of a thread's line with too few or too many words.
-fn word_count(alloc: Global, place: Place, found: usize) -> ReadError {
-    let what = format!(in alloc;
-        "expected 'NAME = thread PROCESS PRIORITY' or 'NAME = thread THREAD PROCESS PRIORITY', found {found} words after 'thread'"
-    );
-    fault_at(place, what)
+    Err(expected(alloc, token, NamesExpected::Process))
 }
 
 /// Reads the line of a thread. The tokens come after the word `thread`, and `place` is the place at which the
@@ -49,17 +46,17 @@ pub fn thread_line(
     definition: Option<Definition>,
     place: Place,
     tokens: &[Token<'_>],
-) -> Result<ThreadLine, ReadError> {
+) -> NamesRead<ThreadLine> {
     let (thread, of, level) = match tokens {
         [of, level] => (None, of, level),
         [number, of, level] => (Some(thread_number(alloc, number)?), of, level),
-        [_, _, _, extra, ..] => return Err(word_count(alloc, extra.place, tokens.len())),
-        _ => return Err(word_count(alloc, place, tokens.len())),
+        [_, _, _, extra, ..] => {
+            return Err(fault_at(extra.place, NamesFault::ThreadWords(tokens.len())));
+        }
+        _ => return Err(fault_at(place, NamesFault::ThreadWords(tokens.len()))),
     };
     if thread.is_none() && definition.is_none() {
-        let what =
-            "the thread has neither a name nor a number: write 'NAME = thread PROCESS PRIORITY'";
-        return Err(fault_in_words(alloc, place, what));
+        return Err(fault_at(place, NamesFault::NamelessThread));
     }
     Ok(ThreadLine {
         definition,
@@ -80,20 +77,18 @@ static STATES: [&str; 5] = [
 ];
 
 /// Reads the name of a state.
-fn state(alloc: Global, token: &Token<'_>) -> Result<&'static str, ReadError> {
-    let all = "expected ready, SEND-blocked, RECEIVE-blocked, REPLY-blocked or blocked";
+fn state(alloc: Global, token: &Token<'_>) -> NamesRead<&'static str> {
     let mut states = STATES.iter().copied();
     let said = states.find(|state| token.is_word(state));
-    said.ok_or_else(|| expected(alloc, token, all))
+    said.ok_or_else(|| expected(alloc, token, NamesExpected::State))
 }
 
 /// Reads the channel after `on`, if there is one.
-fn channel(alloc: Global, tokens: &[Token<'_>]) -> Result<Option<Operand>, ReadError> {
-    let what = "expected nothing or 'on CHANNEL' after a state";
+fn channel(alloc: Global, tokens: &[Token<'_>]) -> NamesRead<Option<Operand>> {
     match tokens {
         [] => Ok(None),
         [on, channel] if on.is_word("on") => Ok(Some(operand(alloc, Slot::Channel, channel)?)),
-        [first, ..] => Err(expected(alloc, first, what)),
+        [first, ..] => Err(expected(alloc, first, NamesExpected::OnChannel)),
     }
 }
 
@@ -106,18 +101,13 @@ pub fn state_line(
     is: &Token<'_>,
     rest: &[Token<'_>],
     text: Word,
-) -> Result<StateCheck, ReadError> {
+) -> NamesRead<StateCheck> {
     let [name, rest @ ..] = rest else {
-        let what = "expected a state: THREAD is STATE";
-        return Err(fault_in_words(alloc, is.behind(), what));
+        return Err(missing(is.behind(), MissingPart::State));
     };
     let state = state(alloc, name)?;
     if let ("ready", [first, ..]) = (state, rest) {
-        return Err(expected(
-            alloc,
-            first,
-            "expected nothing after 'ready': a ready thread isn't blocked on a channel",
-        ));
+        return Err(expected(alloc, first, NamesExpected::NoChannel));
     }
     Ok(StateCheck {
         calls,

@@ -9,7 +9,7 @@ use Rattle.qscript_text.specs.declared.fault.LineFault.{LineFault}
 use Rattle.qscript_text.specs.declared.fault.LineFault.TheVariants.{WordCount}
 use Rattle.qscript_text.specs.declared.reading.forms.Values.{Values}
 use Rattle.qscript_text.specs.Reading.Steps.{◌>>=◌}
-use Rattle.qscript_text.specs.Reading.Number.{number_of, integer_of, priority_of}
+use Rattle.qscript_text.specs.Reading.Number.{below, number_of, integer_of, priority_of}
 use Rattle.qscript_text.specs.Reading.Operand.{bytes_of}
 
 -- the values of no operands
@@ -56,6 +56,20 @@ value_of sort.Message word v = bytes_in word v
 value_of sort.Data word v = bytes_in word v
 value_of sort.ReplyBuffer word v = buffer_in word v
 value_of sort.Buffer word v = buffer_in word v
+
+-- the values with a number as the operand of this sort: a thread, flags, or an id for any other sort
+abbrev pub number_at : OperandKind → ℕ → Values → Result Values LineFault
+number_at sort.Thread n v =
+    below 256 n >>= (λ thread. Ok (record v { numbers = record v.numbers { thread = thread } }))
+number_at sort.Flags n v =
+    below 256 n >>= (λ flags. Ok (record v { numbers = record v.numbers { flags = flags } }))
+number_at other n v = Ok (record v { numbers = record v.numbers { id = n } })
+
+-- the values with bytes as the operand of this sort: a buffer, or else a message or data
+abbrev pub bytes_at : OperandKind → List ℕ → Values → Values
+bytes_at sort.ReplyBuffer bytes v = record v { buffer = bytes }
+bytes_at sort.Buffer bytes v = record v { buffer = bytes }
+bytes_at other bytes v = record v { bytes = bytes }
 
 -- the values with the words of operands of these sorts, or the first fault. A wrong number of words comes
 -- before all other faults, and an earlier fault before a later one

@@ -14,11 +14,15 @@ unfoldable pub digits_of : List ℕ → Option ℕ
 digits_of word = if nat_lt 0 (length word) && nat_le (length word) 20 && all_ascii_digits word
     then Some (digits_value 10 word) else None
 
+-- this number, if it is below the limit
+abbrev pub below : ℕ → ℕ → Result ℕ LineFault
+below limit n = if nat_lt n limit then Ok n else Err BadNumber
+
 -- a number below the limit
 unfoldable pub number_of : ℕ → List ℕ → Result ℕ LineFault
 number_of limit word = do
   n ← ok_or (digits_of word) BadNumber
-  if nat_lt n limit then Ok n else Err BadNumber
+  below limit n
 
 -- a priority: a number below 256 that is a level
 unfoldable pub priority_of : List ℕ → Result ℕ LineFault

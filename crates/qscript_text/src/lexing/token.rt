@@ -1,7 +1,8 @@
 //! Splits a line into its parts.
 
 use crate::lexing::quoted::quoted_len;
-use crate::place::{Place, ReadError, fault_at, fault_in_words};
+use crate::place::{Place, ReadError, fault_at};
+use crate::text_fault::TextFault;
 use std::alloc::Global;
 
 /// The sort of a part of a line.
@@ -101,33 +102,30 @@ fn enclosed<'a>(sort: TokenKind, rest: &'a [u8], len: usize) -> Part<'a> {
 }
 
 /// Returns the word that begins here. A byte with which no word can begin is a fault.
-fn word_part(alloc: Global, rest: &[u8], place: Place) -> Result<Part<'_>, ReadError> {
+fn word_part(rest: &[u8], place: Place) -> Result<Part<'_>, ReadError<TextFault>> {
     let len = word_len(rest);
     if len == 0 {
         let byte = rest.first().copied().unwrap_or(0);
-        let what = format!(in alloc;
-            "byte 0x{byte:02X}: expected tabs and the bytes 0x20 to 0x7E outside quotes and comments"
-        );
-        return Err(fault_at(place, what));
+        return Err(fault_at(place, TextFault::Byte(byte)));
     }
     Ok(sign(TokenKind::Word, rest, len))
 }
 
 /// Returns the part of a line that begins here, at a byte that isn't a blank.
-fn next_part(alloc: Global, rest: &[u8], place: Place) -> Result<Part<'_>, ReadError> {
+fn next_part(rest: &[u8], place: Place) -> Result<Part<'_>, ReadError<TextFault>> {
     match rest {
         [b'=', ..] => Ok(sign(TokenKind::Equals, rest, 1)),
         [b';', ..] => Ok(sign(TokenKind::Semicolon, rest, 1)),
         [b'-', b'>', ..] => Ok(sign(TokenKind::Arrow, rest, 2)),
         [b'"', text @ ..] => match quoted_len(text) {
             Some(len) => Ok(enclosed(TokenKind::Text, text, len)),
-            None => Err(fault_in_words(alloc, place, "this text has no closing quote")),
+            None => Err(fault_at(place, TextFault::OpenText)),
         },
         [b'[', size @ ..] => match size.iter().position(|b| *b == b']') {
             Some(len) => Ok(enclosed(TokenKind::Size, size, len)),
-            None => Err(fault_in_words(alloc, place, "this size has no closing bracket")),
+            None => Err(fault_at(place, TextFault::OpenSize)),
         },
-        _ => word_part(alloc, rest, place),
+        _ => word_part(rest, place),
     }
 }
 
@@ -140,7 +138,11 @@ fn skip_blanks(rest: &[u8]) -> &[u8] {
 }
 
 /// Returns the parts of the line with this number, up to a comment.
-pub fn tokens(alloc: Global, line: &[u8], number: u64) -> Result<Vec<Token<'_>>, ReadError> {
+pub fn tokens(
+    alloc: Global,
+    line: &[u8],
+    number: u64,
+) -> Result<Vec<Token<'_>>, ReadError<TextFault>> {
     let mut tokens = Vec::new(alloc);
     let mut rest = line;
     for _ in 0..line.len() {
@@ -152,7 +154,7 @@ pub fn tokens(alloc: Global, line: &[u8], number: u64) -> Result<Vec<Token<'_>>,
             line: number,
             column: (line.len().saturating_sub(rest.len()) as u64).saturating_add(1),
         };
-        let part = next_part(alloc, rest, place)?;
+        let part = next_part(rest, place)?;
         tokens.push(Token {
             sort: part.sort,
             bytes: part.bytes,

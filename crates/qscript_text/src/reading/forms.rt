@@ -1,13 +1,14 @@
 //! Reads the operands of a line, by their sorts.
 
 ghost use Rattle.std.specs.Prelude.{◌≡◌, [], ◌∷◌, IfOk, Ok};
-ghost use Rattle.qscript_text.specs.Reading.Forms.{member_of, no_values, value_of, values_of};
+ghost use Rattle.qscript_text.specs.Reading.Forms.{bytes_at, member_of, no_values, number_at, value_of};
+ghost use Rattle.qscript_text.specs.Reading.Forms.{values_of};
 ghost use Rattle.qscript_text.specs.Reading.Steps.{Gives};
 ghost use Rattle.qscript_text.specs.Reading.Words.{words_of};
 
 use crate::fault::{LineFault, ParseError};
 use crate::reading::bytes::bytes_said;
-use crate::reading::number::{byte, narrow, number, priority, small, wide};
+use crate::reading::number::{byte, narrow, number, priority, small, small_number, wide};
 use crate::reading::words::next_word;
 use qbase::bytes::Bytes;
 use qbase::ids::{ProcessNo, ThreadNo};
@@ -61,6 +62,32 @@ impl Values {
             )?,
         }
         Ok(values)
+    }
+
+    /// Returns the values with a number as the operand of this sort: a thread, flags, or an id for any other
+    /// sort. A thread and flags are numbers below 256.
+    pub fn with_number(self, sort: OperandKind, number: u64) -> Result<Values, LineFault>
+        ensures { result ≡ number_at sort number self }
+    {
+        let mut values = self;
+        match sort {
+            OperandKind::Thread => values.numbers.thread = ThreadNo(small_number(number)?),
+            OperandKind::Flags => values.numbers.flags = small_number(number)?,
+            _ => values.numbers.id = number,
+        }
+        Ok(values)
+    }
+
+    /// Returns the values with bytes as the operand of this sort: a buffer, or else a message or data.
+    pub fn with_bytes(self, sort: OperandKind, bytes: Bytes) -> Values
+        ensures { result ≡ bytes_at sort bytes self }
+    {
+        let mut values = self;
+        match sort {
+            OperandKind::ReplyBuffer | OperandKind::Buffer => values.buffer = bytes,
+            _ => values.bytes = bytes,
+        }
+        values
     }
 
     /// Reads words as operands of these sorts. If the number of words is wrong, the fault is `WordCount`.

@@ -2,6 +2,7 @@
 
 ghost use Rattle.std.specs.Prelude.{◌≡◌, ◌<◌, ◌^◌, ℤ, pos, negsuc, IfSome};
 ghost use Rattle.qscript_text.specs.Reading.Number.{digits_of, number_of, priority_of, signed_of, integer_of};
+ghost use Rattle.qscript_text.specs.Reading.Number.{below};
 
 use crate::fault::LineFault;
 use qbase::priority::Priority;
@@ -35,6 +36,17 @@ pub fn small(word: &[u8]) -> Result<u8, LineFault>
     match digits(word) {
         Some(value) if value < 256 => Ok(value as u8),
         _ => Err(LineFault::BadNumber),
+    }
+}
+
+/// Returns a number below 256 as a byte. Any other number is `BadNumber`.
+pub fn small_number(number: u64) -> Result<u8, LineFault>
+    ensures { result ≡ below 256 number }
+{
+    if number < 256 {
+        Ok(number as u8)
+    } else {
+        Err(LineFault::BadNumber)
     }
 }
 

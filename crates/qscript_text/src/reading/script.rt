@@ -26,8 +26,19 @@ pub struct Script {
 }
 
 impl Script {
+    /// Returns a script without threads and calls.
+    pub fn new(alloc: Global) -> Script
+        ensures roster { result.roster.items ≡ [] }
+        ensures calls { result.calls.items ≡ [] }
+    {
+        Script {
+            roster: Vec::new(alloc),
+            calls: Vec::new(alloc),
+        }
+    }
+
     /// Adds the content of a line.
-    fn add(&mut self, said: ScriptLine) -> Result<(), AllocError>
+    pub fn add(&mut self, said: ScriptLine) -> Result<(), AllocError>
         ensures roster { OnOk result
             (self.new.roster.items ≡ self.old.roster.items ++ cons_option (member_in (Ok said)) []) }
         ensures calls { OnOk result
@@ -119,10 +130,7 @@ pub fn parse(alloc: Global, text: &[u8]) -> Result<Script, ScriptFault>
     if text.len() > MOST_TEXT {
         return Err(ScriptFault::TooLong);
     }
-    let mut script = Script {
-        roster: Vec::new(alloc),
-        calls: Vec::new(alloc),
-    };
+    let mut script = Script::new(alloc);
     let mut rest = text;
     let mut number = 0u64;
     'reading: while let Some(next) = next_line(rest) {

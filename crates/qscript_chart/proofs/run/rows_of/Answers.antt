@@ -5,7 +5,7 @@ use Rattle.qscript_chart.proofs.run.rows_of.Goals as goal
 
 pub calls-init : goal.calls-init
 calls-init c = record {
-  going = rw (c.new-rows.ensures.items, c.new.ensures.items) (going_none c.args.run.now.kernel);
+  going = rw (c.new-rows.ensures.items, c.new-course.ensures) (going_none c.args.run.now.kernel);
   left = search rules;
   count = search rules;
 }

@@ -1,4 +1,4 @@
-use Rattle.qscript_names.proofs.Common.{◌≡◌, Some, length, string_bytes, refl, ◌∙◌, arith, hash_map_updates_text, Label}
+use Rattle.qscript_names.proofs.Common.{◌≡◌, Some, length, string_bytes, refl, arith, hash_map_updates_text, Label}
 use Rattle.qscript_names.proofs.Labels.{last_more}
 use Rattle.qscript_names.proofs.scope.Scope.add_label.Goals as goal
 

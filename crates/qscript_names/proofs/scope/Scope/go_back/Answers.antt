@@ -1,4 +1,4 @@
-use Rattle.std.proofs.Common.{◌≡◌, refl, ◌∙◌}
+use Rattle.std.proofs.Common.{refl, ◌∙◌}
 use Rattle.qscript_names.proofs.scope.Scope.go_back.Goals as goal
 
 pub invariant_of-self : goal.invariant_of-self

@@ -1,4 +1,4 @@
-use Rattle.qscript_names.proofs.Common.{◌≡◌, ap, sym, ◌∙◌, slice_get, get_by_text}
+use Rattle.qscript_names.proofs.Common.{ap, sym, ◌∙◌, slice_get, get_by_text}
 use Rattle.qscript_names.proofs.Labels.{found_some, found_none}
 use Rattle.qscript_names.proofs.scope.Scope.latest.Goals as goal
 

@@ -8,7 +8,7 @@ unfolding meaning
 returns-then-text-gt-MOST_TEXT c = search rules
 
 pub reading-init : goal.reading-init
-reading-init c = rw (c.new.ensures.items, c.new-2.ensures.items) (matches_first c.args.text.now)
+reading-init c = rw (c.new-script.ensures.roster, c.new-script.ensures.calls) (matches_first c.args.text.now)
 
 pub returns-in-Err : goal.returns-in-Err
 returns-in-Err c =

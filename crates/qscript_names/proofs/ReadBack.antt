@@ -1,0 +1,5 @@
+-- Plain lines are read back.
+pub mod Words
+pub mod Operands
+pub mod Lines
+pub mod Texts

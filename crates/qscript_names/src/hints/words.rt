@@ -1,0 +1,201 @@
+//! The hints on frequent mistakes, and their words. All languages of the front have them.
+
+use qmodel::kind::LISTED;
+use qscript_text::grammar::OperandKind;
+use qscript_text::text_fault::expected_words;
+use qscript_text::word::Word;
+use std::fmt;
+
+/// A correction of a word that can't be read as an operand.
+#[derive(Drop)]
+pub enum OperandHint {
+    /// The number that the word means: the number of an error, or the sum of flags.
+    Number(i32),
+    /// Bytes that begin with `0x`.
+    Prefix,
+    /// A text in quotes.
+    Quotes,
+    /// A decimal number with these digits, which may be meant as so many bytes of zero.
+    Zeros(Word),
+    /// Equal bytes that don't have two digits.
+    ByteDigits,
+    /// Too many equal bytes.
+    TooManyBytes,
+    /// Letters that aren't hexadecimal digits.
+    Letters(Word),
+}
+
+impl fmt::Display for OperandHint {
+    fn fmt<W: fmt::Write>(&self, f: &mut fmt::Formatter<W>) -> fmt::Result {
+        match self {
+            OperandHint::Number(number) => write!(f, ": write {number}"),
+            OperandHint::Prefix => f.write_str("; write them without 0x"),
+            OperandHint::Quotes => f.write_str("; a plain script has no text in quotes"),
+            OperandHint::Zeros(digits) => {
+                write!(f, "; for {digits} bytes of zero write {digits}x00")
+            }
+            OperandHint::ByteDigits => f.write_str("; write the two digits of one byte after x"),
+            OperandHint::TooManyBytes => f.write_str("; write at most 4,096"),
+            OperandHint::Letters(letters) => {
+                f.write_str("; write these letters as ")?;
+                for byte in letters.as_str().as_bytes() {
+                    write!(f, "{byte:02x}")?;
+                }
+                Ok(())
+            }
+        }
+    }
+}
+
+/// An operand of this sort, which a word can't be read as.
+#[derive(Drop)]
+pub struct ExpectedOperand {
+    pub sort: OperandKind,
+    pub hint: Option<OperandHint>,
+}
+
+impl fmt::Display for ExpectedOperand {
+    fn fmt<W: fmt::Write>(&self, f: &mut fmt::Formatter<W>) -> fmt::Result {
+        f.write_str(expected_words(self.sort))?;
+        match &self.hint {
+            Some(hint) => write!(f, "{hint}"),
+            None => Ok(()),
+        }
+    }
+}
+
+/// A correction of a word that should be bytes or a text in quotes.
+#[derive(Clone, Copy)]
+pub enum BytesHint {
+    /// It begins with `0x`.
+    Prefix,
+    /// A text in single quotes.
+    SingleQuotes,
+    /// A text without quotes.
+    NoQuotes,
+}
+
+impl BytesHint {
+    /// Returns the words of the hint, which come after the words of a fault.
+    pub fn words(self) -> &'static str {
+        match self {
+            BytesHint::Prefix => "; write them without 0x",
+            BytesHint::SingleQuotes => "; write a text in double quotes",
+            BytesHint::NoQuotes => "; write a text in quotes",
+        }
+    }
+}
+
+/// The text that a superfluous word of a line probably belongs to.
+#[derive(Clone, Copy)]
+pub enum ExtraHint {
+    /// A comment after a call of a plain script.
+    Comment,
+    /// A comment of another language after a call of a plain script.
+    OtherComment,
+    /// Flags with spaces around `|`.
+    Flags,
+    /// An expected completion, without its arrow.
+    Completion,
+    /// A comment of another language in a script with names.
+    CommentSign,
+    /// A text in single quotes.
+    SingleQuotes,
+}
+
+impl ExtraHint {
+    /// Returns the words of the hint, which come after the words of a fault.
+    pub fn words(self) -> &'static str {
+        match self {
+            ExtraHint::Comment => "; write a comment on its own line",
+            ExtraHint::OtherComment => "; write a comment with # on its own line",
+            ExtraHint::Flags => "; write flags without spaces around |",
+            ExtraHint::Completion =>
+                "; write the completion after ->, or in a design in an 'expect' below",
+            ExtraHint::CommentSign => "; a comment begins with #",
+            ExtraHint::SingleQuotes => "; write a text in double quotes",
+        }
+    }
+}
+
+/// The call that a word may be meant to name.
+#[derive(Clone, Copy)]
+pub enum MeantCall {
+    /// The call that has this name in QNX, with a parenthesis or with capital letters.
+    Other(&'static str),
+    /// The call whose name is nearest to the word.
+    Near(&'static str),
+    /// None is near.
+    Unknown,
+}
+
+/// A word that names no call.
+#[derive(Drop)]
+pub struct UnknownCall {
+    /// Its first bytes.
+    pub word: Word,
+    pub meant: MeantCall,
+}
+
+impl fmt::Display for UnknownCall {
+    fn fmt<W: fmt::Write>(&self, f: &mut fmt::Formatter<W>) -> fmt::Result {
+        let UnknownCall { word, meant } = self;
+        write!(f, "'{word}' isn't a call; ")?;
+        match meant {
+            MeantCall::Other(name) => write!(f, "write '{name}'"),
+            MeantCall::Near(name) => write!(f, "did you mean '{name}'?"),
+            MeantCall::Unknown => {
+                f.write_str("the calls are")?;
+                for kind in &LISTED {
+                    let name = kind.word();
+                    write!(f, " {name}")?;
+                }
+                Ok(())
+            }
+        }
+    }
+}
+
+/// A number of a completion. It has the number of the error that a word names in QNX.
+#[derive(Clone, Copy)]
+pub struct ExpectedNumber(pub Option<i32>);
+
+impl fmt::Display for ExpectedNumber {
+    fn fmt<W: fmt::Write>(&self, f: &mut fmt::Formatter<W>) -> fmt::Result {
+        f.write_str("expected a number, or * for any")?;
+        match self.0 {
+            Some(number) => write!(f, ": write {number}"),
+            None => Ok(()),
+        }
+    }
+}
+
+/// An error. It has the right word for the error that a word names in QNX.
+#[derive(Clone, Copy)]
+pub struct ExpectedError(pub Option<&'static str>);
+
+impl fmt::Display for ExpectedError {
+    fn fmt<W: fmt::Write>(&self, f: &mut fmt::Formatter<W>) -> fmt::Result {
+        f.write_str("expected srch, badf, inval, again, intr, busy, nomemory or down")?;
+        match self.0 {
+            Some(word) => write!(f, ": write {word}"),
+            None => Ok(()),
+        }
+    }
+}
+
+/// A buffer of these decimal digits, which may be meant as a length.
+#[derive(Drop)]
+pub struct DecimalBuffer(pub Word);
+
+impl fmt::Display for DecimalBuffer {
+    fn fmt<W: fmt::Write>(&self, f: &mut fmt::Formatter<W>) -> fmt::Result {
+        let digits = &self.0;
+        let count = digits.as_str().len() / 2;
+        let bytes = if count == 1 { "byte" } else { "bytes" };
+        write!(
+            f,
+            "{digits} is {count} {bytes}; for {digits} bytes of zero write {digits}x00"
+        )
+    }
+}
