@@ -160,10 +160,10 @@ a thread:
   client is REPLY-blocked on ch
   server reply m 0 \"seven\" -> ok; m -> reply 0 \"seven\"
 
-It runs as its plain script, in which each name is replaced by its number;
---plain prints that script. All faults, and all differences between the run and
-the expectations, are reported on standard error, as
-'qdemo: FILE:4:27: expected ..'. docs/SCRIPTS.md describes all forms.
+Each name stands for its number, and --plain prints the plain script with these
+numbers. All faults, and all differences between the run and the expectations,
+are reported on standard error, as 'qdemo: FILE:4:27: expected ..'.
+docs/SCRIPTS.md describes all forms.
 
 With --names, and on a terminal, the output of a script with names has names. A
 line has the line number of the call that completed it, the call and its

@@ -20,12 +20,12 @@ use qscript_text::{MOST_TEXT, Script};
 use std::alloc::{AllocError, Global};
 use std::mem;
 
-/// A script with names whose plain script can run.
+/// A script with names that can run.
 #[derive(Drop)]
 pub struct NamedScript {
     /// The plain script.
     pub text: String,
-    /// The meaning of the plain script.
+    /// Its threads and calls.
     pub script: Script,
     /// The expectations of its run.
     pub check: ExpectationCheck,
@@ -176,12 +176,12 @@ pub fn process_faults(alloc: Global, numbers: &[(Place, u64)], scope: &Scope) ->
     Ok(faults)
 }
 
-/// Returns the fault of a line of the plain script.
+/// Returns the fault of the content of the line with this number.
 pub fn line_fault(alloc: Global, line: u64, fault: LineFault) -> NamedFaults {
     single(alloc, Place { line, column: 1 }, NamesFault::Plain(fault))
 }
 
-/// Returns the faults of lines that can't be translated. A line has the same number in the plain script.
+/// Returns the faults of lines whose names can't be resolved.
 fn refusal_faults(alloc: Global, lined: &Lined, refusal: Refusal) -> NamedFaults {
     match refusal {
         Refusal::Memory | Refusal::Script(ScriptFault::NoMemory) => Err(AllocError),

@@ -44,7 +44,7 @@ pub enum NamesFault {
     /// A word that isn't a flag, and the sum of the flags that are meant, if that is known.
     Flag(UnknownWord, Option<i32>),
     Name(FaultyName),
-    /// The line of the plain script has this fault.
+    /// The numbers of the line have this fault, as a line of a plain script has it.
     Plain(LineFault),
     Script(ScriptFault),
     Difference(Difference),
@@ -309,7 +309,7 @@ fn unknown_flag<W: fmt::Write>(
     }
 }
 
-/// Writes the fault of a line of the plain script.
+/// Writes a fault that a line of a plain script can have, too.
 fn plain_fault<W: fmt::Write>(fault: LineFault, f: &mut fmt::Formatter<W>) -> fmt::Result {
     match fault {
         LineFault::LongLine => f.write_str("expected at most 4,096 bytes in the line's plain form"),

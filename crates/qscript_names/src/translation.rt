@@ -21,17 +21,17 @@ use qscript_text::{MOST_TEXT, Script};
 use qtables::member::Member;
 use std::alloc::{AllocError, Global};
 
-/// The reason why lines have no plain script that can run.
+/// The reason why lines can't run.
 #[derive(Drop)]
 pub enum Refusal {
-    /// There is no memory for the plain script.
+    /// There is no memory for what the lines say.
     Memory,
     /// The faults of the names, and the definitions of the lines.
     Names {
         faults: Vec<NameFault>,
         scope: Scope,
     },
-    /// The fault of the plain script.
+    /// The fault of a line, or the plain script is too long.
     Script(ScriptFault),
 }
 

@@ -6,7 +6,7 @@ use std::alloc::{AllocError, Global};
 use std::fmt;
 use std::marker::Model;
 
-/// A name, or a word that is copied into the plain script unchanged. Contracts see the list of its bytes.
+/// A name, or a word as it was written. Contracts see the list of its bytes.
 #[derive(Drop)]
 pub struct Word {
     text: String,
