@@ -28,7 +28,7 @@ fault_at place (Some e) = Some (record { place = place; error = e })
 abbrev pub operand_fault : List Label → Operand → Option NameFault
 operand_fault labels (operands.Name m) = fault_at m.place (error_of m.expected (latest m.name labels))
 operand_fault labels (operands.Number n) = None
-operand_fault labels (operands.Plain word) = None
+operand_fault labels (operands.Plain written) = None
 operand_fault labels (operands.Text bytes) = None
 operand_fault labels (operands.Zeros n) = None
 

@@ -22,7 +22,7 @@ zeros_word n = if n == 0 then codes "-" else decimal n ++ codes "x00"
 abbrev pub word_of : List Label → Operand → List ℕ
 word_of labels (operands.Name m) = decimal (number_of m.name labels)
 word_of labels (operands.Number n) = decimal n
-word_of labels (operands.Plain word) = word
+word_of labels (operands.Plain written) = written.word
 word_of labels (operands.Text bytes) = bytes_word bytes
 word_of labels (operands.Zeros n) = zeros_word n
 
@@ -36,7 +36,7 @@ line_text names (lines.Aside text) = text
 line_text names (lines.State text) = codes "# " ++ text
 line_text names (lines.Thread t) =
     codes "thread " ++ decimal (thread_number names t) ++ 32
-    ∷ decimal (process_number names.processes t.process) ++ 32 ∷ t.priority
+    ∷ decimal (process_number names.processes t.process) ++ 32 ∷ t.priority.word
 line_text names (lines.Call c) =
     word_of names.labels c.caller ++ 32 ∷ script_word c.kind ++ words_of names.labels c.operands.items
 

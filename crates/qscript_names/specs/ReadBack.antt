@@ -1,6 +1,6 @@
 -- Lines whose plain lines can be read back. The reader of names makes only such lines.
 use Rattle.std.specs.Prelude.{◌≡◌, ◌≢◌, ℕ, ◌-◌, ◌<◌, ◌≤◌, ◌^◌, ◌&&◌, Bool, true, false}
-use Rattle.std.specs.Prelude.{List, [], ◌∷◌, ◌++◌, length}
+use Rattle.std.specs.Prelude.{List, [], ◌∷◌, ◌++◌, length, Ok}
 use Rattle.std.specs.Prelude.{nat_le, nat_lt, slice_index, codes}
 use Rattle.std.specs.Char.{is_ascii_digit}
 use Rattle.std.specs.List.{list_all}
@@ -8,11 +8,15 @@ use Rattle.hex.specs.Hex.{IsBytes}
 use Rattle.qmodel.specs.declared.operands.OperandKind.{OperandKind}
 use Rattle.qmodel.specs.declared.operands.OperandKind.TheVariants as sorts
 use Rattle.qmodel.specs.Kinds.{sorts_of}
+use Rattle.qscript_text.specs.declared.reading.operand_value.OperandValue.{OperandValue}
+use Rattle.qscript_text.specs.Reading.Forms.{operand_of}
+use Rattle.qscript_text.specs.Reading.Number.{priority_of}
 use Rattle.qscript_text.specs.Reading.TextLaws.{IsOneLine, is_passed_over}
 use Rattle.qscript_text.specs.Reading.Words.{words_of}
 use Rattle.qscript_names.specs.declared.line.Operand.{Operand}
 use Rattle.qscript_names.specs.declared.line.Operand.TheVariants as operands
 use Rattle.qscript_names.specs.declared.line.CallLine.{CallLine}
+use Rattle.qscript_names.specs.declared.line.Written.{Written}
 use Rattle.qscript_names.specs.declared.line.NamedLine.{NamedLine}
 use Rattle.qscript_names.specs.declared.line.NamedLine.TheVariants as lines
 use Rattle.qscript_names.specs.declared.label.Label.{Label}
@@ -44,11 +48,15 @@ may_be_text sorts.ReplyBuffer = true
 may_be_text sorts.Buffer = true
 may_be_text other = false
 
--- an operand of this sort: a number of 64 bits, a word, bytes, or at most 4,096 zeros
+-- a value that its word has as an operand of this sort
+abbrev pub IsWritten : OperandKind → Written OperandValue → Type 0
+IsWritten s written = operand_of s written.word ≡ Ok written.value
+
+-- an operand of this sort: a number of 64 bits, the value of its word, bytes, or at most 4,096 zeros
 abbrev pub IsOperand : List Label → OperandKind → Operand → Type 0
 IsOperand labels s (operands.Name m) = (may_be_name s ≡ true) × (number_of m.name labels < 2 ^ 64)
 IsOperand labels s (operands.Number n) = (may_be_name s ≡ true) × (n < 2 ^ 64)
-IsOperand labels s (operands.Plain word) = is_word word ≡ true
+IsOperand labels s (operands.Plain written) = (is_word written.word ≡ true) × IsWritten s written
 IsOperand labels s (operands.Text bytes) = (may_be_text s ≡ true) × IsBytes bytes
 IsOperand labels s (operands.Zeros n) = (may_be_text s ≡ true) × (n ≤ 4096)
 
@@ -69,7 +77,8 @@ abbrev pub CanBeRead : Names → NamedLine → Type 0
 CanBeRead names (lines.Aside text) = IsLine text × (is_passed_over (words_of text) ≡ true)
 CanBeRead names (lines.State text) = IsLine (codes "# " ++ text)
 CanBeRead names (lines.Thread t) = (thread_number names t < 2 ^ 64)
-    × (process_number names.processes t.process < 2 ^ 64) × (is_word t.priority ≡ true)
+    × (process_number names.processes t.process < 2 ^ 64) × (is_word t.priority.word ≡ true)
+    × (priority_of t.priority.word ≡ Ok t.priority.value)
 CanBeRead names (lines.Call c) = IsCall names.labels c
 
 -- the plain lines of these lines can be read back

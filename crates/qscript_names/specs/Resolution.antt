@@ -13,9 +13,9 @@ use Rattle.qscript_text.specs.declared.fault.LineFault.TheVariants.{LateThread, 
 use Rattle.qscript_text.specs.declared.reading.forms.Values.{Values}
 use Rattle.qscript_text.specs.declared.reading.line.ScriptLine.{ScriptLine}
 use Rattle.qscript_text.specs.declared.reading.line.ScriptLine.TheVariants as contents
-use Rattle.qscript_text.specs.Reading.Forms.{bytes_at, no_values, number_at, value_of}
+use Rattle.qscript_text.specs.Reading.Forms.{bytes_at, no_values, number_at, with_value}
 use Rattle.qscript_text.specs.Reading.Meaning.{call_in, line_after_roster, member_in}
-use Rattle.qscript_text.specs.Reading.Number.{below, priority_of}
+use Rattle.qscript_text.specs.Reading.Number.{below}
 use Rattle.qscript_text.specs.Reading.Steps.{◌>>=◌}
 use Rattle.qscript_names.specs.declared.line.Operand.{Operand}
 use Rattle.qscript_names.specs.declared.line.Operand.TheVariants as operands
@@ -33,7 +33,7 @@ use Rattle.qscript_names.specs.Plain.{line_text}
 abbrev pub with_operand : List Label → OperandKind → Operand → Values → Result Values LineFault
 with_operand labels s (operands.Name m) v = number_at s (number_of m.name labels) v
 with_operand labels s (operands.Number n) v = number_at s n v
-with_operand labels s (operands.Plain word) v = value_of s word v
+with_operand labels s (operands.Plain written) v = Ok (with_value written.value v)
 with_operand labels s (operands.Text bytes) v = Ok (bytes_at s bytes v)
 with_operand labels s (operands.Zeros n) v = Ok (bytes_at s (replicate n 0) v)
 
@@ -60,8 +60,7 @@ unfoldable pub member_content : Names → ThreadLine → Result ScriptLine LineF
 member_content names t = do
   thread ← below 256 (thread_number names t)
   process ← below 256 (process_number names.processes t.process)
-  priority ← priority_of t.priority
-  Ok (contents.Roster (record { thread = thread; process = process; priority = priority }))
+  Ok (contents.Roster (record { thread = thread; process = process; priority = t.priority.value }))
 
 -- the content of a line after the lines that defined `names`, as a line of a plain script has it; `is_late`
 -- says whether calls are above it

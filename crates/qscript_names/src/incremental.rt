@@ -119,11 +119,12 @@ impl IncrementalScript {
         let line = if line.is_empty() { b"\n" } else { line };
         let calls = self.check.calls.len() as u64;
         let mut lined = lines_behind(self.alloc, line, self.lines, calls)?;
-        match lined.lines.pop() {
-            _ if !lined.faults.is_empty() => {
-                Ok(Err(mem::replace(&mut lined.faults, Vec::new(self.alloc))))
-            }
-            Some(said) => self.add_said(&said, &mut lined),
+        if !lined.faults.is_empty() {
+            return Ok(Err(mem::replace(&mut lined.faults, Vec::new(self.alloc))));
+        }
+        let lines = mem::replace(&mut lined.lines, Vec::new(self.alloc));
+        match lines.last() {
+            Some(said) => self.add_said(said, &mut lined),
             None => Ok(Ok(ScriptLine::Blank)),
         }
     }

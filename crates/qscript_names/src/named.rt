@@ -10,7 +10,7 @@ use crate::line::{CallLine, LineKind, NamedLine, Operand, Process};
 use crate::names_fault::{FaultyName, NameUsage, NamesFault};
 use crate::reading::script::{Lined, lines_behind};
 use crate::scope::Scope;
-use crate::translation::{Refusal, resolve, translate};
+use crate::translation::{Refusal, ResolvedLines, resolve, translate};
 use qmodel::kind::CallKind;
 use qscript_text::fault::{LineFault, ScriptFault};
 use qscript_text::parts::Lines;
@@ -210,9 +210,9 @@ fn follows(fault: &NamesFault, faulty: &[&[u8]]) -> bool {
         .any(|word| word == name.as_str().as_bytes()))
 }
 
-/// Returns the faults of the names of lines, and then the faults of the names in their expectations.
-fn lined_faults(alloc: Global, lined: &Lined, extent: Extent) -> NamedFaults {
-    let resolved = resolve(alloc, lined.lines.as_slice())?;
+/// Returns the faults of the names of these lines, which were resolved, and then the faults of the names in
+/// their expectations.
+fn resolved_faults(lined: &Lined, resolved: &ResolvedLines, extent: Extent) -> NamedFaults {
     let context = lined.context(&resolved.scope);
     let mut faults = name_faults(lined.lines.as_slice(), context, resolved.faults.as_slice())?;
     let mut unmet = expectation_faults(context, lined.states.as_slice(), extent)?;
@@ -220,20 +220,29 @@ fn lined_faults(alloc: Global, lined: &Lined, extent: Extent) -> NamedFaults {
     Ok(faults)
 }
 
+/// Returns those lines of a text that have these faults.
+fn faulty_lines<'a>(
+    alloc: Global,
+    text: &'a [u8],
+    faults: &[Fault<NamesFault>],
+) -> Result<Vec<&'a [u8]>, AllocError> {
+    let numbers = faults
+        .iter()
+        .map(|fault| fault.place.line.saturating_sub(1) as usize);
+    numbers
+        .map(|number| Lines(text).nth(number).unwrap_or(&[]))
+        .collect(alloc)
+}
+
 /// Returns the faults of lines, and the faults of names in the other lines that aren't consequences of them.
 fn all_faults(alloc: Global, text: &[u8], lined: &mut Lined, extent: Extent) -> NamedFaults {
     let most = if is_utf_16(text) { 1 } else { MOST_FAULTS };
     lined.faults.truncate(most);
-    let mut faulty = Vec::new(alloc);
-    for fault in &lined.faults {
-        let number = fault.place.line.saturating_sub(1) as usize;
-        faulty.push(Lines(text).nth(number).unwrap_or(&[]))?;
-    }
-    for fault in lined_faults(alloc, lined, extent)? {
-        if !follows(&fault.kind, faulty.as_slice()) {
-            lined.faults.push(fault)?;
-        }
-    }
+    let faulty = faulty_lines(alloc, text, lined.faults.as_slice())?;
+    let resolved = resolve(alloc, lined.lines.as_slice())?;
+    let mut others = resolved_faults(lined, &resolved, extent)?;
+    others.retain(|fault| !follows(&fault.kind, faulty.as_slice()));
+    lined.faults.append(&mut others)?;
     lined.faults.sort_by_key(|fault| fault.place.line)?;
     lined.faults.truncate(MOST_FAULTS);
     Ok(mem::replace(&mut lined.faults, Vec::new(alloc)))

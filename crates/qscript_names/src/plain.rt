@@ -46,7 +46,7 @@ fn push_operand(
             let number = *number;
             write!(out, "{number}")
         }
-        Operand::Plain(word) => out.push_str(word.as_str()),
+        Operand::Plain(written) => out.push_str(written.word.as_str()),
         Operand::Text(bytes) => push_bytes(alloc, out, bytes.as_slice()),
         Operand::Zeros(count) => push_zeros(out, *count),
     }
@@ -94,7 +94,7 @@ fn push_thread(out: &mut String, scope: &Scope, line: &ThreadLine) -> Result<(),
 {
     let thread = scope.thread(line);
     let process = scope.process(&line.process);
-    let priority = line.priority.as_str();
+    let priority = line.priority.word.as_str();
     write!(out, "thread {thread} {process} {priority}")
 }
 

@@ -20,7 +20,7 @@ use qmodel::operands::OperandKind;
 use qscript_text::fault::{LineFault, ParseError};
 use qscript_text::reading::forms::Values;
 use qscript_text::reading::line::{MOST_BYTES, ScriptLine};
-use qscript_text::reading::number::{priority, small_number};
+use qscript_text::reading::number::small_number;
 use qscript_text::reading::script::place;
 use qtables::member::Member;
 use std::alloc::Global;
@@ -38,7 +38,7 @@ fn with_operand(
     match operand {
         Operand::Name(mention) => Ok(values.with_number(sort, scope.number(&mention.name))?),
         Operand::Number(number) => Ok(values.with_number(sort, *number)?),
-        Operand::Plain(word) => values.with(alloc, sort, word.as_str().as_bytes()),
+        Operand::Plain(written) => Ok(values.with(written.value.copied(alloc)?)),
         Operand::Text(bytes) => {
             Ok(values.with_bytes(sort, Bytes::copied(alloc, bytes.as_slice())?))
         }
@@ -105,11 +105,10 @@ fn member_content(scope: &Scope, line: &ThreadLine) -> Result<ScriptLine, LineFa
 {
     let thread = small_number(scope.thread(line))?;
     let process = small_number(scope.process(&line.process))?;
-    let priority = priority(line.priority.as_str().as_bytes())?;
     Ok(ScriptLine::Roster(Member {
         thread: ThreadNo(thread),
         process: ProcessNo(process),
-        priority,
+        priority: line.priority.value,
     }))
 }
 

@@ -6,6 +6,7 @@ pub mod forms;
 pub mod line;
 pub mod lines;
 pub mod number;
+pub mod operand_value;
 pub mod script;
 pub mod text_laws;
 pub mod words;

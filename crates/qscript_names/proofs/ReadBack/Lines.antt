@@ -17,10 +17,11 @@ use Rattle.qmodel.specs.Kinds.{call_with, kind_named, script_word, sorts_of}
 use Rattle.qscript_text.specs.declared.fault.LineFault.{LineFault}
 use Rattle.qscript_text.specs.declared.fault.LineFault.TheVariants.{LateThread, LongLine, UnknownWord}
 use Rattle.qscript_text.specs.declared.reading.forms.Values.{Values}
+use Rattle.qscript_text.specs.declared.reading.operand_value.OperandValue.TheVariants as value
 use Rattle.qscript_text.specs.declared.reading.line.ScriptLine.{ScriptLine}
 use Rattle.qscript_text.specs.declared.reading.line.ScriptLine.TheVariants as contents
 use Rattle.qscript_text.specs.Reading.Call.{call_of}
-use Rattle.qscript_text.specs.Reading.Forms.{member_of, no_values, values_of}
+use Rattle.qscript_text.specs.Reading.Forms.{member_of, no_values, values_of, with_value}
 use Rattle.qscript_text.specs.Reading.Line.{call_line_of, is_text, line_of, roster_line_of, said_of}
 use Rattle.qscript_text.specs.Reading.Meaning.{line_after_roster, line_behind}
 use Rattle.qscript_text.specs.Reading.Number.{number_of, priority_of}
@@ -124,13 +125,13 @@ call_line names c h =
 -- the words of a thread's line after the first word
 abbrev thread_words : Names → ThreadLine → List (List ℕ)
 thread_words names t =
-    decimal (thread_number names t) ∷ decimal (process_number names.processes t.process) ∷ t.priority ∷ []
+    decimal (thread_number names t) ∷ decimal (process_number names.processes t.process) ∷ t.priority.word ∷ []
 
 -- three numbers that are read one after another
 three : (x y z : Result ℕ LineFault)
-    → ((((x >>= (λ n. Ok (record no_values { numbers = record no_values.numbers { thread = n } })))
-    >>= (λ (v : Values). y >>= (λ n. Ok (record v { numbers = record v.numbers { process = n } }))))
-    >>= (λ (v : Values). z >>= (λ n. Ok (record v { numbers = record v.numbers { priority = n } }))))
+    → (((((x >>= (λ n. Ok (value.Thread n))) >>= (λ o. Ok (with_value o no_values)))
+    >>= (λ (v : Values). (y >>= (λ n. Ok (value.Process n))) >>= (λ o. Ok (with_value o v))))
+    >>= (λ (v : Values). (z >>= (λ n. Ok (value.Priority n))) >>= (λ o. Ok (with_value o v))))
     >>= (λ (v : Values). (let r : Result Member LineFault =
     Ok (record { thread = v.numbers.thread; process = v.numbers.process; priority = v.numbers.priority }) in r))
     >>= (λ m. Ok (contents.Roster m)))
@@ -147,10 +148,11 @@ member_back : (names : Names) (t : ThreadLine) → CanBeRead names (lines.Thread
 unfolding member_of member_content
 member_back names t h =
     three (number_of 256 (decimal (thread_number names t)))
-    (number_of 256 (decimal (process_number names.processes t.process))) (priority_of t.priority)
+    (number_of 256 (decimal (process_number names.processes t.process))) (priority_of t.priority.word)
     ∙ rw (
       below_back 256 (thread_number names t) h.0,
       below_back 256 (process_number names.processes t.process) h.1,
+      h.3,
     ) refl
 
 -- the words of a thread's line are read as the line
@@ -170,15 +172,15 @@ thread_line names t h =
     let b = decimal (process_number names.processes t.process) in
     let a_word = number_word (thread_number names t) h.0 in
     let b_word = number_word (process_number names.processes t.process) h.1 in
-    let joined = append_assoc a (32 ∷ b) (32 ∷ t.priority) in (
-      words_before (codes "thread") (a ++ 32 ∷ b ++ 32 ∷ t.priority) refl
+    let joined = append_assoc a (32 ∷ b) (32 ∷ t.priority.word) in (
+      words_before (codes "thread") (a ++ 32 ∷ b ++ 32 ∷ t.priority.word) refl
           ∙ ap (λ line. codes "thread" ∷ words_in line) joined
-          ∙ ap (λ ws. codes "thread" ∷ ws) (words_before a (b ++ 32 ∷ t.priority) a_word)
-          ∙ ap (λ ws. codes "thread" ∷ a ∷ ws) (words_before b t.priority b_word)
-          ∙ ap (λ ws. codes "thread" ∷ a ∷ b ∷ ws) (words_alone t.priority h.2),
-      text_before (codes "thread") (a ++ 32 ∷ b ++ 32 ∷ t.priority) refl
-          (ap (list_all is_text) joined ∙ text_before a (b ++ 32 ∷ t.priority) a_word
-          (text_before b t.priority b_word (text_alone t.priority h.2))),
+          ∙ ap (λ ws. codes "thread" ∷ ws) (words_before a (b ++ 32 ∷ t.priority.word) a_word)
+          ∙ ap (λ ws. codes "thread" ∷ a ∷ ws) (words_before b t.priority.word b_word)
+          ∙ ap (λ ws. codes "thread" ∷ a ∷ b ∷ ws) (words_alone t.priority.word h.2),
+      text_before (codes "thread") (a ++ 32 ∷ b ++ 32 ∷ t.priority.word) refl
+          (ap (list_all is_text) joined ∙ text_before a (b ++ 32 ∷ t.priority.word) a_word
+          (text_before b t.priority.word b_word (text_alone t.priority.word h.2))),
     )
 
 -- ---- any line

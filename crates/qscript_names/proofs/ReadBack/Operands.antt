@@ -19,7 +19,9 @@ use Rattle.qmodel.specs.declared.operands.OperandKind.{OperandKind}
 use Rattle.qmodel.specs.declared.operands.OperandKind.TheVariants as sorts
 use Rattle.qscript_text.specs.declared.fault.LineFault.{LineFault}
 use Rattle.qscript_text.specs.declared.reading.forms.Values.{Values}
-use Rattle.qscript_text.specs.Reading.Forms.{bytes_at, number_at, value_of, values_of}
+use Rattle.qscript_text.specs.declared.reading.operand_value.OperandValue.{OperandValue}
+use Rattle.qscript_text.specs.declared.reading.operand_value.OperandValue.TheVariants as value
+use Rattle.qscript_text.specs.Reading.Forms.{bytes_at, number_at, value_of, values_of, with_value}
 use Rattle.qscript_text.specs.Reading.Number.{below, digits_of, number_of}
 use Rattle.qscript_text.specs.Reading.Operand.{bytes_of, plain_of, repeated_of}
 use Rattle.qscript_text.specs.Reading.Steps.{◌>>=◌}
@@ -53,10 +55,16 @@ below_back limit n h = rw (digits_back n h) refl
 wide_back : (n : ℕ) → n < 2 ^ 64 → number_of (2 ^ 64) (decimal n) ≡ Ok n
 wide_back n h = below_back (2 ^ 64) n h ∙ rw (lt-ltb n (2 ^ 64) h) refl
 
+-- the values with a number that is read
+one : (n : Result ℕ LineFault) (of : ℕ → OperandValue) (v : Values)
+    → ((n >>= (λ n. Ok (of n))) >>= (λ o. Ok (with_value o v))) ≡ (n >>= (λ n. Ok (with_value (of n) v)))
+one (Ok n) of v = refl
+one (Err f) of v = refl
+
 number_read : (s : OperandKind) (n : ℕ) (v : Values) → may_be_name s ≡ true → n < 2 ^ 64
     → value_of s (decimal n) v ≡ number_at s n v
-number_read sorts.Thread n v h fits = rw (below_back 256 n fits) refl
-number_read sorts.Flags n v h fits = rw (below_back 256 n fits) refl
+number_read sorts.Thread n v h fits = rw (below_back 256 n fits) (one (below 256 n) value.Thread v)
+number_read sorts.Flags n v h fits = rw (below_back 256 n fits) (one (below 256 n) value.Flags v)
 number_read sorts.Channel n v h fits = rw (wide_back n fits) refl
 number_read sorts.Connection n v h fits = rw (wide_back n fits) refl
 number_read sorts.ReceiveId n v h fits = rw (wide_back n fits) refl
@@ -146,7 +154,7 @@ pub operand_back : (labels : List Label) (s : OperandKind) (o : Operand) (v : Va
 operand_back labels s (operands.Name m) v h =
     (number_word (named m.name labels) h.1, number_read s (named m.name labels) v h.0 h.1)
 operand_back labels s (operands.Number n) v h = (number_word n h.1, number_read s n v h.0 h.1)
-operand_back labels s (operands.Plain word) v h = (h, refl)
+operand_back labels s (operands.Plain written) v h = (h.0, rw h.1 refl)
 operand_back labels s (operands.Text bytes) v h =
     (text_word bytes h.1, bytes_read s (bytes_word bytes) bytes v h.0 (text_back bytes h.1))
 operand_back labels s (operands.Zeros n) v h =

@@ -13,7 +13,7 @@ use qkernel::call::{Completion, Mark};
 use qkernel::kernel::Kernel;
 use qmodel::kind::CallKind;
 use qscript_text::place::{Fault, Place};
-use qscript_text::reading::number::number;
+use qscript_text::reading::operand_value::OperandValue;
 use qscript_text::states::{state_among, state_channel, state_name};
 use std::alloc::{AllocError, Global};
 use std::mem;
@@ -42,7 +42,11 @@ fn operand_number(scope: &Scope, operand: &Operand) -> u64 {
     match operand {
         Operand::Name(mention) => scope.number(&mention.name),
         Operand::Number(number) => *number,
-        Operand::Plain(word) => number(word.as_str().as_bytes()).unwrap_or(0),
+        Operand::Plain(written) => match &written.value {
+            OperandValue::Thread(thread) => u64::from(thread.0),
+            OperandValue::Id(id) => *id,
+            _ => 0,
+        },
         Operand::Text(_) | Operand::Zeros(_) => 0,
     }
 }

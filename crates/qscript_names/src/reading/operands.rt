@@ -1,26 +1,62 @@
 //! Reads the operands of a call.
 
+ghost use Rattle.std.specs.Prelude.{IfOk, IfSome};
+ghost use Rattle.qscript_names.specs.ReadBack.{IsWritten};
+
 use crate::hints::words::ExpectedOperand;
 use crate::hints::{bytes_hint, flags_meant, operand_hint};
-use crate::line::{LineKind, NameMention, Operand};
+use crate::line::{LineKind, NameMention, Operand, Written};
 use crate::names_fault::{NamesExpected, NamesFault, NamesRead, expected, of_text};
-use qscript_text::grammar::{FLAGS, OperandKind as Slot, fault_of};
+use qscript_text::fault::ParseError;
+use qscript_text::grammar::{FLAGS, OperandKind as Slot};
 use qscript_text::lexing::name::is_name;
 use qscript_text::lexing::token::{Token, TokenKind};
 use qscript_text::lexing::values::{size_of, text_bytes, word_of};
-use qscript_text::place::fault_at;
+use qscript_text::place::{ReadError, fault_at};
+use qscript_text::reading::operand_value::OperandValue;
 use qscript_text::text_fault::UnknownWord;
 use qscript_text::word::Word;
-use std::alloc::Global;
+use std::alloc::{AllocError, Global};
+use std::str;
 
-/// Reads a word in the notation of plain scripts.
-pub fn plain_word(alloc: Global, slot: Slot, token: &Token<'_>) -> NamesRead<Word> {
-    if token.sort != TokenKind::Word || fault_of(alloc, slot, token.bytes)?.is_some() {
-        let hint = operand_hint(alloc, slot, token.bytes)?;
-        let operand = ExpectedOperand { sort: slot, hint };
-        return Err(expected(alloc, token, NamesExpected::Operand(operand)));
+/// Reads a word in the notation of plain scripts. Returns `None` if it isn't an operand of this sort.
+fn written(
+    alloc: Global,
+    slot: Slot,
+    token: &Token<'_>,
+) -> Result<Option<Written<OperandValue>>, AllocError>
+    ensures { IfOk result (λ read. IfSome read (IsWritten slot)) }
+{
+    let (TokenKind::Word, Ok(text)) = (token.sort, str::from_utf8(token.bytes)) else {
+        return Ok(None);
+    };
+    match OperandValue::read(alloc, slot, text.as_bytes()) {
+        Ok(value) => Ok(Some(Written {
+            word: Word::of(alloc, text)?,
+            value,
+        })),
+        Err(ParseError::Fault(_)) => Ok(None),
+        Err(ParseError::Memory) => Err(AllocError),
     }
-    Ok(word_of(alloc, token.bytes)?)
+}
+
+/// Returns the fault of a part of a line that isn't an operand of this sort.
+pub fn no_operand(alloc: Global, slot: Slot, token: &Token<'_>) -> ReadError<NamesFault> {
+    match operand_hint(alloc, slot, token.bytes) {
+        Ok(hint) => {
+            let operand = ExpectedOperand { sort: slot, hint };
+            expected(alloc, token, NamesExpected::Operand(operand))
+        }
+        Err(_) => ReadError::Memory,
+    }
+}
+
+/// Reads an operand in the notation of plain scripts.
+fn plain(alloc: Global, slot: Slot, token: &Token<'_>) -> NamesRead<Operand> {
+    match written(alloc, slot, token)? {
+        Some(written) => Ok(Operand::Plain(written)),
+        None => Err(no_operand(alloc, slot, token)),
+    }
 }
 
 /// Reads bytes: a text, a number of zeros, or a word in the notation of plain scripts.
@@ -28,13 +64,13 @@ fn bytes(alloc: Global, slot: Slot, token: &Token<'_>) -> NamesRead<Operand> {
     match token.sort {
         TokenKind::Text => Ok(Operand::Text(text_bytes(alloc, token).map_err(of_text)?)),
         TokenKind::Size => Ok(Operand::Zeros(size_of(alloc, token).map_err(of_text)?)),
-        TokenKind::Word if fault_of(alloc, slot, token.bytes)?.is_none() => {
-            Ok(Operand::Plain(word_of(alloc, token.bytes)?))
-        }
-        _ => {
-            let hint = bytes_hint(token.bytes);
-            Err(expected(alloc, token, NamesExpected::Bytes(hint)))
-        }
+        _ => match written(alloc, slot, token)? {
+            Some(written) => Ok(Operand::Plain(written)),
+            None => {
+                let hint = bytes_hint(token.bytes);
+                Err(expected(alloc, token, NamesExpected::Bytes(hint)))
+            }
+        },
     }
 }
 
@@ -54,7 +90,7 @@ fn flag(alloc: Global, token: &Token<'_>, name: &[u8]) -> NamesRead<u8> {
 /// Reads flags: their names with `|` between, or a number.
 fn flags(alloc: Global, token: &Token<'_>) -> NamesRead<Operand> {
     if token.sort != TokenKind::Word || is_numeric(token) {
-        return Ok(Operand::Plain(plain_word(alloc, Slot::Flags, token)?));
+        return plain(alloc, Slot::Flags, token);
     }
     let mut bits = 0u8;
     for name in token.bytes.split(|b| *b == b'|') {
@@ -71,7 +107,7 @@ pub fn is_numeric(token: &Token<'_>) -> bool {
 /// Reads a name, or a number in the notation of plain scripts.
 pub fn id(alloc: Global, kind: LineKind, slot: Slot, token: &Token<'_>) -> NamesRead<Operand> {
     if is_numeric(token) {
-        return Ok(Operand::Plain(plain_word(alloc, slot, token)?));
+        return plain(alloc, slot, token);
     }
     if token.sort != TokenKind::Word || !is_name(token.bytes) {
         return Err(expected(alloc, token, NamesExpected::Id(kind)));
@@ -92,6 +128,6 @@ pub fn operand(alloc: Global, slot: Slot, token: &Token<'_>) -> NamesRead<Operan
         Slot::ReceiveId => id(alloc, LineKind::Message, slot, token),
         Slot::Flags => flags(alloc, token),
         Slot::Message | Slot::ReplyBuffer | Slot::Buffer | Slot::Data => bytes(alloc, slot, token),
-        _ => Ok(Operand::Plain(plain_word(alloc, slot, token)?)),
+        _ => plain(alloc, slot, token),
     }
 }

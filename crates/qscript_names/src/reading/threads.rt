@@ -1,15 +1,16 @@
 //! Reads the line of a thread, and a line with the state of a thread.
 
 use crate::expectation::StateCheck;
-use crate::hints::words::ExpectedOperand;
-use crate::line::{Definition, Operand, Process, ThreadLine};
+use crate::line::{LineKind, NewName, Operand, Process, ThreadLine, Written};
 use crate::names_fault::{MissingPart, NamesExpected, NamesFault, NamesRead, expected, missing};
-use crate::reading::operands::{operand, plain_word};
+use crate::reading::operands::{no_operand, operand};
+use qbase::priority::Priority;
 use qscript_text::grammar::OperandKind as Slot;
 use qscript_text::lexing::name::is_name;
 use qscript_text::lexing::token::{Token, TokenKind};
 use qscript_text::lexing::values::word_of;
 use qscript_text::place::{Place, fault_at};
+use qscript_text::reading::number;
 use qscript_text::reading::number::small;
 use qscript_text::word::Word;
 use std::alloc::Global;
@@ -18,11 +19,7 @@ use std::alloc::Global;
 fn thread_number(alloc: Global, token: &Token<'_>) -> NamesRead<u64> {
     match small(token.bytes) {
         Ok(number) if token.sort == TokenKind::Word => Ok(u64::from(number)),
-        _ => {
-            let (sort, hint) = (Slot::Thread, None);
-            let operand = ExpectedOperand { sort, hint };
-            Err(expected(alloc, token, NamesExpected::Operand(operand)))
-        }
+        _ => Err(no_operand(alloc, Slot::Thread, token)),
     }
 }
 
@@ -39,11 +36,22 @@ fn process(alloc: Global, token: &Token<'_>) -> NamesRead<Process> {
     Err(expected(alloc, token, NamesExpected::Process))
 }
 
-/// Reads the line of a thread. The tokens come after the word `thread`, and `place` is the place at which the
-/// first of them would begin.
+/// Reads the base priority of a thread.
+fn priority(alloc: Global, level: &Token<'_>) -> NamesRead<Written<Priority>> {
+    match number::priority(level.bytes) {
+        Ok(value) if level.sort == TokenKind::Word => Ok(Written {
+            word: word_of(alloc, level.bytes)?,
+            value,
+        }),
+        _ => Err(no_operand(alloc, Slot::Priority, level)),
+    }
+}
+
+/// Reads the line of a thread. `name` is the name before `=`. The tokens come after the word `thread`, and
+/// `place` is the place at which the first of them would begin.
 pub fn thread_line(
     alloc: Global,
-    definition: Option<Definition>,
+    name: Option<NewName>,
     place: Place,
     tokens: &[Token<'_>],
 ) -> NamesRead<ThreadLine> {
@@ -55,15 +63,15 @@ pub fn thread_line(
         }
         _ => return Err(fault_at(place, NamesFault::ThreadWords(tokens.len()))),
     };
-    if thread.is_none() && definition.is_none() {
+    if thread.is_none() && name.is_none() {
         return Err(fault_at(place, NamesFault::NamelessThread));
     }
     Ok(ThreadLine {
-        definition,
+        definition: name.map(|name| name.defined_as(LineKind::Thread)),
         thread,
         process: process(alloc, of)?,
         place: of.place,
-        priority: plain_word(alloc, Slot::Priority, level)?,
+        priority: priority(alloc, level)?,
     })
 }
 

@@ -8,6 +8,8 @@ use Rattle.qmodel.specs.Operands.{no_operands}
 use Rattle.qscript_text.specs.declared.fault.LineFault.{LineFault}
 use Rattle.qscript_text.specs.declared.fault.LineFault.TheVariants.{WordCount}
 use Rattle.qscript_text.specs.declared.reading.forms.Values.{Values}
+use Rattle.qscript_text.specs.declared.reading.operand_value.OperandValue.{OperandValue}
+use Rattle.qscript_text.specs.declared.reading.operand_value.OperandValue.TheVariants as value
 use Rattle.qscript_text.specs.Reading.Steps.{◌>>=◌}
 use Rattle.qscript_text.specs.Reading.Number.{below, number_of, integer_of, priority_of}
 use Rattle.qscript_text.specs.Reading.Operand.{bytes_of}
@@ -16,46 +18,44 @@ use Rattle.qscript_text.specs.Reading.Operand.{bytes_of}
 abbrev pub no_values : Values
 no_values = record { numbers = no_operands; bytes = []; buffer = [] }
 
--- the values with this id
-abbrev pub id_in : List ℕ → Values → Result Values LineFault
-id_in word v = number_of (2 ^ 64) word >>= (λ n. Ok (record v { numbers = record v.numbers { id = n } }))
+-- the value of a word as an operand of this sort. A status is a signed number of 64 bits, a code or a value
+-- one of 32 bits, and the code of a pulse one of 8 bits
+abbrev pub operand_of : OperandKind → List ℕ → Result OperandValue LineFault
+operand_of sort.Thread word = number_of 256 word >>= (λ n. Ok (value.Thread n))
+operand_of sort.Process word = number_of 256 word >>= (λ n. Ok (value.Process n))
+operand_of sort.Priority word = priority_of word >>= (λ n. Ok (value.Priority n))
+operand_of sort.Flags word = number_of 256 word >>= (λ n. Ok (value.Flags n))
+operand_of sort.Channel word = number_of (2 ^ 64) word >>= (λ n. Ok (value.Id n))
+operand_of sort.Connection word = number_of (2 ^ 64) word >>= (λ n. Ok (value.Id n))
+operand_of sort.ReceiveId word = number_of (2 ^ 64) word >>= (λ n. Ok (value.Id n))
+operand_of sort.Offset word = number_of (2 ^ 64) word >>= (λ n. Ok (value.Offset n))
+operand_of sort.Status word = integer_of (2 ^ 63) word >>= (λ n. Ok (value.Status n))
+operand_of sort.ErrorCode word = integer_of (2 ^ 31) word >>= (λ n. Ok (value.ErrorCode n))
+operand_of sort.PulseCode word = integer_of (2 ^ 7) word >>= (λ n. Ok (value.PulseCode n))
+operand_of sort.Value word = integer_of (2 ^ 31) word >>= (λ n. Ok (value.Value n))
+operand_of sort.Message word = bytes_of word >>= (λ bytes. Ok (value.Bytes bytes))
+operand_of sort.Data word = bytes_of word >>= (λ bytes. Ok (value.Bytes bytes))
+operand_of sort.ReplyBuffer word = bytes_of word >>= (λ bytes. Ok (value.Buffer bytes))
+operand_of sort.Buffer word = bytes_of word >>= (λ bytes. Ok (value.Buffer bytes))
 
--- the values with this message or data
-abbrev pub bytes_in : List ℕ → Values → Result Values LineFault
-bytes_in word v = bytes_of word >>= (λ bytes. Ok (record v { bytes = bytes }))
+-- the values with this operand
+abbrev pub with_value : OperandValue → Values → Values
+with_value (value.Thread n) v = record v { numbers = record v.numbers { thread = n } }
+with_value (value.Process n) v = record v { numbers = record v.numbers { process = n } }
+with_value (value.Priority n) v = record v { numbers = record v.numbers { priority = n } }
+with_value (value.Flags n) v = record v { numbers = record v.numbers { flags = n } }
+with_value (value.Id n) v = record v { numbers = record v.numbers { id = n } }
+with_value (value.Offset n) v = record v { numbers = record v.numbers { offset = n } }
+with_value (value.Status n) v = record v { numbers = record v.numbers { status = n } }
+with_value (value.ErrorCode n) v = record v { numbers = record v.numbers { code = n } }
+with_value (value.PulseCode n) v = record v { numbers = record v.numbers { pulse_code = n } }
+with_value (value.Value n) v = record v { numbers = record v.numbers { value = n } }
+with_value (value.Bytes bytes) v = record v { bytes = bytes }
+with_value (value.Buffer bytes) v = record v { buffer = bytes }
 
--- the values with this buffer
-abbrev pub buffer_in : List ℕ → Values → Result Values LineFault
-buffer_in word v = bytes_of word >>= (λ buffer. Ok (record v { buffer = buffer }))
-
--- the values with the word of an operand of this sort. A status is a signed number of 64 bits, a code or a
--- value one of 32 bits, and the code of a pulse one of 8 bits
+-- the values with the word of an operand of this sort
 abbrev pub value_of : OperandKind → List ℕ → Values → Result Values LineFault
-value_of sort.Thread word v =
-    number_of 256 word >>= (λ n. Ok (record v { numbers = record v.numbers { thread = n } }))
-value_of sort.Process word v =
-    number_of 256 word >>= (λ n. Ok (record v { numbers = record v.numbers { process = n } }))
-value_of sort.Priority word v =
-    priority_of word >>= (λ n. Ok (record v { numbers = record v.numbers { priority = n } }))
-value_of sort.Flags word v =
-    number_of 256 word >>= (λ n. Ok (record v { numbers = record v.numbers { flags = n } }))
-value_of sort.Channel word v = id_in word v
-value_of sort.Connection word v = id_in word v
-value_of sort.ReceiveId word v = id_in word v
-value_of sort.Offset word v =
-    number_of (2 ^ 64) word >>= (λ n. Ok (record v { numbers = record v.numbers { offset = n } }))
-value_of sort.Status word v =
-    integer_of (2 ^ 63) word >>= (λ n. Ok (record v { numbers = record v.numbers { status = n } }))
-value_of sort.ErrorCode word v =
-    integer_of (2 ^ 31) word >>= (λ n. Ok (record v { numbers = record v.numbers { code = n } }))
-value_of sort.PulseCode word v =
-    integer_of (2 ^ 7) word >>= (λ n. Ok (record v { numbers = record v.numbers { pulse_code = n } }))
-value_of sort.Value word v =
-    integer_of (2 ^ 31) word >>= (λ n. Ok (record v { numbers = record v.numbers { value = n } }))
-value_of sort.Message word v = bytes_in word v
-value_of sort.Data word v = bytes_in word v
-value_of sort.ReplyBuffer word v = buffer_in word v
-value_of sort.Buffer word v = buffer_in word v
+value_of s word v = operand_of s word >>= (λ x. Ok (with_value x v))
 
 -- the values with a number as the operand of this sort: a thread, flags, or an id for any other sort
 abbrev pub number_at : OperandKind → ℕ → Values → Result Values LineFault

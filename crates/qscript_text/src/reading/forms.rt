@@ -1,14 +1,14 @@
 //! Reads the operands of a line, by their sorts.
 
 ghost use Rattle.std.specs.Prelude.{◌≡◌, [], ◌∷◌, IfOk, Ok};
-ghost use Rattle.qscript_text.specs.Reading.Forms.{bytes_at, member_of, no_values, number_at, value_of};
-ghost use Rattle.qscript_text.specs.Reading.Forms.{values_of};
+ghost use Rattle.qscript_text.specs.Reading.Forms.{bytes_at, member_of, no_values, number_at, values_of};
+ghost use Rattle.qscript_text.specs.Reading.Forms.{with_value};
 ghost use Rattle.qscript_text.specs.Reading.Steps.{Gives};
 ghost use Rattle.qscript_text.specs.Reading.Words.{words_of};
 
 use crate::fault::{LineFault, ParseError};
-use crate::reading::bytes::bytes_said;
-use crate::reading::number::{byte, narrow, number, priority, small, small_number, wide};
+use crate::reading::number::{priority, small, small_number};
+use crate::reading::operand_value::OperandValue;
 use crate::reading::words::next_word;
 use qbase::bytes::Bytes;
 use qbase::ids::{ProcessNo, ThreadNo};
@@ -38,30 +38,26 @@ impl Values {
         }
     }
 
-    /// Returns the values with one more operand, which is read from a word as this sort.
-    pub fn with(self, alloc: Global, sort: OperandKind, word: &[u8]) -> Result<Values, ParseError>
-        ensures { Gives result (value_of sort word.now self) }
+    /// Returns the values with this operand.
+    pub fn with(self, value: OperandValue) -> Values
+        ensures { result ≡ with_value value self }
     {
         let mut values = self;
-        match sort {
-            OperandKind::Thread => values.numbers.thread = ThreadNo(small(word)?),
-            OperandKind::Process => values.numbers.process = ProcessNo(small(word)?),
-            OperandKind::Priority => values.numbers.priority = priority(word)?,
-            OperandKind::Flags => values.numbers.flags = small(word)?,
-            OperandKind::Channel | OperandKind::Connection | OperandKind::ReceiveId => {
-                values.numbers.id = number(word)?
-            }
-            OperandKind::Offset => values.numbers.offset = number(word)? as usize,
-            OperandKind::Status => values.numbers.status = wide(word)?,
-            OperandKind::ErrorCode => values.numbers.code = narrow(word)?,
-            OperandKind::PulseCode => values.numbers.pulse_code = byte(word)?,
-            OperandKind::Value => values.numbers.value = narrow(word)?,
-            OperandKind::Message | OperandKind::Data => values.bytes = bytes_said(alloc, word)?,
-            OperandKind::ReplyBuffer | OperandKind::Buffer => values.buffer = bytes_said(
-                alloc, word,
-            )?,
+        match value {
+            OperandValue::Thread(thread) => values.numbers.thread = thread,
+            OperandValue::Process(process) => values.numbers.process = process,
+            OperandValue::Priority(priority) => values.numbers.priority = priority,
+            OperandValue::Flags(flags) => values.numbers.flags = flags,
+            OperandValue::Id(id) => values.numbers.id = id,
+            OperandValue::Offset(offset) => values.numbers.offset = offset,
+            OperandValue::Status(status) => values.numbers.status = status,
+            OperandValue::ErrorCode(code) => values.numbers.code = code,
+            OperandValue::PulseCode(code) => values.numbers.pulse_code = code,
+            OperandValue::Value(value) => values.numbers.value = value,
+            OperandValue::Bytes(bytes) => values.bytes = bytes,
+            OperandValue::Buffer(buffer) => values.buffer = buffer,
         }
-        Ok(values)
+        values
     }
 
     /// Returns the values with a number as the operand of this sort: a thread, flags, or an id for any other
@@ -124,27 +120,34 @@ fn with_next(
         Ok(values) => values,
         Err(fault) => return Ok(Err(fault)),
     };
-    match values.with(alloc, sort, word) {
-        Ok(values) => Ok(Ok(values)),
+    match OperandValue::read(alloc, sort, word) {
+        Ok(value) => Ok(Ok(values.with(value))),
         Err(ParseError::Fault(fault)) => Ok(Err(fault)),
         Err(ParseError::Memory) => Err(AllocError),
     }
 }
 
-/// Reads the operands of a roster line: a thread, its process and its base priority.
+/// Reads the operands of a roster line: a thread, its process and its base priority. If the number of words
+/// is wrong, the fault is `WordCount`. Otherwise it is the fault of the first faulty word.
 #[tactic(auto, unfolding(crate::specs::Reading::Forms::member_of))]
-pub fn member(alloc: Global, operands: &[u8]) -> Result<Member, ParseError>
-    ensures { Gives result (member_of (words_of operands.now)) }
+pub fn member(operands: &[u8]) -> Result<Member, LineFault>
+    ensures { result ≡ member_of (words_of operands.now) }
 {
-    let sorts = [
-        OperandKind::Thread,
-        OperandKind::Process,
-        OperandKind::Priority,
-    ];
-    let values = Values::read(alloc, &sorts, operands)?;
+    let Some((thread, rest)) = next_word(operands) else {
+        return Err(LineFault::WordCount);
+    };
+    let Some((process, rest)) = next_word(rest) else {
+        return Err(LineFault::WordCount);
+    };
+    let Some((level, rest)) = next_word(rest) else {
+        return Err(LineFault::WordCount);
+    };
+    let None = next_word(rest) else {
+        return Err(LineFault::WordCount);
+    };
     Ok(Member {
-        thread: values.numbers.thread,
-        process: values.numbers.process,
-        priority: values.numbers.priority,
+        thread: ThreadNo(small(thread)?),
+        process: ProcessNo(small(process)?),
+        priority: priority(level)?,
     })
 }

@@ -43,14 +43,13 @@ fn call_line(alloc: Global, caller: &[u8], rest: &[u8]) -> Result<ScriptLine, Pa
 
 /// Reads a roster line. It is refused if `is_late`, that is, if call lines are above it.
 #[tactic(auto, unfolding(crate::specs::Reading::Line::roster_line_of))]
-fn roster_line(alloc: Global, is_late: bool, operands: &[u8]) -> Result<ScriptLine, ParseError>
-    ensures { Gives result (roster_line_of is_late (words_of operands.now)) }
+fn roster_line(is_late: bool, operands: &[u8]) -> Result<ScriptLine, LineFault>
+    ensures { result ≡ roster_line_of is_late (words_of operands.now) }
 {
     if is_late {
-        return Err(ParseError::Fault(LineFault::LateThread));
+        return Err(LineFault::LateThread);
     }
-    let member = member(alloc, operands)?;
-    Ok(ScriptLine::Roster(member))
+    Ok(ScriptLine::Roster(member(operands)?))
 }
 
 /// Returns whether a line has only tabs and printable ASCII (32 to 126).
@@ -76,7 +75,7 @@ fn said(alloc: Global, is_late: bool, line: &[u8]) -> Result<ScriptLine, ParseEr
         return Err(ParseError::Fault(LineFault::BadByte));
     }
     if is(first, "thread") {
-        return roster_line(alloc, is_late, rest);
+        return Ok(roster_line(is_late, rest)?);
     }
     call_line(alloc, first, rest)
 }

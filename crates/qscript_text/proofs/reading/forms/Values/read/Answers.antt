@@ -1,4 +1,4 @@
-use Rattle.qscript_text.proofs.Common.{◌≡◌, ◌∙◌, sym, words_of}
+use Rattle.qscript_text.proofs.Common.{◌∙◌, sym, words_of}
 use Rattle.qmodel.specs.declared.operands.OperandKind.TheVariants.{Thread}
 use Rattle.qscript_text.proofs.Operands.{read_short}
 use Rattle.qscript_text.proofs.reading.forms.Values.read.Goals as goal
