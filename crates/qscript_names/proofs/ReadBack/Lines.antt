@@ -79,7 +79,7 @@ call_back labels k all h =
 
 -- the thread of a caller's word is the thread of the caller
 caller_back : (r : Result ℕ LineFault) (read : Result Values LineFault) (next : ℕ → Result ScriptLine LineFault)
-    → (r >>= (λ n. Ok (record no_values { numbers = record no_values.numbers { thread = n } }))) ≡ read
+    → ((r >>= (λ n. Ok (value.Thread n))) >>= (λ o. Ok (with_value o no_values))) ≡ read
     → (r >>= next) ≡ (read >>= (λ v. next v.numbers.thread))
 caller_back (Ok n) read next e = rw (← e) refl
 caller_back (Err f) read next e = rw (← e) refl
