@@ -187,13 +187,10 @@ fn record_all(
     let labels = LabelPlaces::of(alloc, &check.scope)?;
     let mut events = EventWriter::new(alloc);
     check.compare_states(Some(run.run().kernel()))?;
-    for (thread, call) in mem::replace(&mut script.calls, Vec::new(alloc)) {
-        let event = events.begin(thread, &call, &ScriptLabels::of(check, &labels))?;
-        run.make(check.context(), thread, call)?;
-        let completions = run.run().completions();
-        let event = events.end(event, completions, &ScriptLabels::of(check, &labels))?;
-        push_line(out, &event)?;
-        check.follow(run.run().kernel(), completions)?;
+    for call in mem::replace(&mut script.calls, Vec::new(alloc)) {
+        let names = ScriptLabels::of(check, &labels);
+        push_line(out, &events.make(run, check.context(), call, &names)?)?;
+        check.follow(run.run().kernel(), run.run().completions())?;
     }
     check.finish(run.run().kernel())?;
     push_blocked(out, run, &ScriptLabels::of(check, &labels))?;

@@ -10,11 +10,13 @@ use crate::names::{is_named, run_named};
 use crate::remarks;
 use crate::remarks::tell_faults;
 use crate::streams::{KeptReader, Outlet};
+use qbase::ids::ThreadNo;
+use qmodel::call::Call;
 use qscript::fault::ScriptFault;
-use qscript::parse;
 use qscript::script::script;
 use qscript::transfer::read_all;
 use qscript::watched::Watched;
+use qscript::{Script, parse};
 use qscript_explain::faults::faults;
 use qscript_explain::report::{ReportedRun, RunReport, explained};
 use qscript_names::context::Context;
@@ -97,22 +99,38 @@ fn explain_from<R: Print + Eprint + AllocGlobal, S: Read + Drop>(
 fn recorded(alloc: Global, text: &[u8]) -> Result<(String, RunReport), ScriptFault> {
     let script = parse(alloc, text)?;
     let lines = call_lines(alloc, text)?;
-    let kept = Vec::from_slice(alloc, lines.as_slice())?;
-    let mut run = ReportedRun::new(alloc, &script, kept)?;
-    let names = PlainLines(lines.as_slice());
+    Ok(recorded_run(alloc, script, lines.as_slice())?)
+}
+
+/// Runs a script whose calls have these line numbers. Returns its lines of JSON, and the report.
+fn recorded_run(
+    alloc: Global,
+    script: Script,
+    lines: &[usize],
+) -> Result<(String, RunReport), AllocError> {
+    let mut run = ReportedRun::new(alloc, &script, Vec::from_slice(alloc, lines)?)?;
     let scope = Scope::new(alloc);
     let context = Context::plain(alloc, &scope);
-    let mut events = EventWriter::new(alloc);
-    let mut out = String::new(alloc);
-    for (thread, call) in script.calls {
-        let event = events.begin(thread, &call, &names)?;
-        run.make(context, thread, call)?;
-        let event = events.end(event, run.run().completions(), &names)?;
-        push_line(&mut out, &event)?;
-    }
-    push_blocked(&mut out, &run, &names)?;
+    let told = record_calls(&mut run, context, script.calls, &PlainLines(lines))?;
     let (_, report) = run.finish(context)?;
-    Ok((out, report))
+    Ok((told, report))
+}
+
+/// Makes these calls in a run. Returns a line of JSON for each of them, and for each thread that is blocked
+/// at the end.
+fn record_calls(
+    run: &mut ReportedRun,
+    context: Context<'_>,
+    calls: Vec<(ThreadNo, Call)>,
+    names: &PlainLines<'_>,
+) -> Result<String, AllocError> {
+    let mut events = EventWriter::new(context.alloc);
+    let mut told = String::new(context.alloc);
+    for call in calls {
+        push_line(&mut told, &events.make(run, context, call, names)?)?;
+    }
+    push_blocked(&mut told, run, names)?;
+    Ok(told)
 }
 
 /// Prints the faults of a plain script as lines of JSON.

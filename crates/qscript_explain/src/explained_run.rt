@@ -16,7 +16,8 @@ use std::alloc::{AllocError, Global};
 /// A run that continues call by call, and the history of its calls.
 #[derive(Drop)]
 pub struct ExplainedRun {
-    run: Run,
+    /// A box, since a run is large and its owners pass it on.
+    run: Box<Run, Global>,
     history: CallHistory,
 }
 
@@ -27,8 +28,9 @@ impl ExplainedRun {
         members: &[Member],
         calls: usize,
     ) -> Result<ExplainedRun, AllocError> {
+        let run = Run::new(alloc, &roster_with_all(alloc, members), calls)?;
         Ok(ExplainedRun {
-            run: Run::new(alloc, &roster_with_all(alloc, members), calls)?,
+            run: Box::new(alloc, run).map_err(|_| AllocError)?,
             history: CallHistory::new(alloc),
         })
     }
@@ -47,7 +49,7 @@ impl ExplainedRun {
 
     /// Returns the run, without the history of its calls.
     pub fn into_run(self) -> Run {
-        self.run
+        Box::into_inner(self.run)
     }
 
     /// Returns the failures in the event of the latest call: the number of each call, and the reason in

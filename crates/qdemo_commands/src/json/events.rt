@@ -10,6 +10,7 @@ use qkernel::trace::Trace;
 use qmodel::call::{Call, Completion};
 use qmodel::kind::CallKind;
 use qscript_explain::report::ReportedRun;
+use qscript_names::context::Context;
 use serde_json::Value;
 use std::alloc::{AllocError, Global};
 
@@ -27,8 +28,21 @@ impl EventWriter {
         EventWriter { alloc, kinds }
     }
 
+    /// Makes a call in a run, and returns its event. `context` has the names for reasons.
+    pub fn make<N: RunNames>(
+        &mut self,
+        run: &mut ReportedRun,
+        context: Context<'_>,
+        (thread, call): (ThreadNo, Call),
+        names: &N,
+    ) -> Result<Value, AllocError> {
+        let event = self.begin(thread, &call, names)?;
+        run.make(context, thread, call)?;
+        self.end(event, run.run().completions(), names)
+    }
+
     /// Returns the event of the next call, without its completions.
-    pub fn begin<N: RunNames>(
+    fn begin<N: RunNames>(
         &mut self,
         thread: ThreadNo,
         call: &Call,
@@ -45,7 +59,7 @@ impl EventWriter {
     }
 
     /// Returns the event with its completions.
-    pub fn end<N: RunNames>(
+    fn end<N: RunNames>(
         &self,
         mut record: Record,
         completions: &[Completion],
