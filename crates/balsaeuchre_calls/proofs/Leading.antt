@@ -1,15 +1,21 @@
 -- The effect of a call, or of two calls in turn, follows from its outcome.
 use Rattle.balsaeuchre_calls.proofs.Common.{Call, CallError, Completion, Done, Completed, Err, Follows, Gives, History}
 use Rattle.balsaeuchre_calls.proofs.Common.{Leads, List, Makes, MakesBoth, Ok, Reading, Result, WaitsFor, [], ap}
-use Rattle.balsaeuchre_calls.proofs.Common.{done_in, inl, inr}
+use Rattle.balsaeuchre_calls.proofs.Common.{done_in, inl, inr, subst}
 use Rattle.balsaeuchre_calls.proofs.Common.{completed_in, false, if◌then◌else◌, read_off, refl, sym, told_by, true, ⊤}
 use Rattle.balsaeuchre_calls.proofs.Common.{◌++◌, ◌∙◌, ◌∷◌, ◌≡◌}
 use Rattle.std.proofs.lemmas.List.{append-nil, append_assoc}
+use Rattle.std.proofs.Common.{Bool}
+use Rattle.std.proofs.lemmas.Bool.{true≢false}
+use Rattle.qbase.specs.declared.errno.Errno.{Errno}
+use Rattle.qbase.specs.declared.errno.Errno.TheVariants.{Busy}
+use Rattle.balsaeuchre_calls.specs.declared.endpoint.LastOutcome.{LastOutcome}
+use Rattle.balsaeuchre_calls.specs.declared.endpoint.LastOutcome.TheVariants.{Refused}
 use Rattle.qmodel.specs.declared.call.Mark.{Mark}
 use Rattle.qmodel.specs.declared.call.Mark.TheVariants as mark
 use Rattle.qshared.specs.declared.port.Called.{Called}
 use Rattle.qshared.specs.declared.port.Called.TheVariants as called
-use Rattle.qshared.specs.Counting.{is_call, gives, pends}
+use Rattle.qshared.specs.Counting.{OnBusy, is_call, gives, pends}
 use Rattle.qshared.specs.TwoCalls.{is_ok}
 use Rattle.qrules.specs.Trace.{Trace}
 use Rattle.balsaeuchre_calls.proofs.Reading.{makes_off}
@@ -20,6 +26,15 @@ pub record IsAnswer (call : Call) (answer : Called) (before after : History) : T
   pub taken : after.taken ≡ before.taken ++ gives answer
   pub pending : after.pending ≡ pends answer before.pending
   pub told : after.told ≡ told_by answer
+  pub busy : OnBusy answer (before.pending ≡ true)
+
+abbrev errno_of : LastOutcome → Errno
+errno_of (Refused errno) = errno
+errno_of other = Busy
+
+abbrev is_refused : LastOutcome → Bool
+is_refused (Refused errno) = true
+is_refused other = false
 
 -- the record after the outcome, and the effect of the outcome, are together the effect of the call
 pub leads_makes : (call : Call) (answer : Called) {before between after : History} {result : Result Completed CallError}
@@ -29,11 +44,15 @@ leads_makes call (called.Refused errno given) {before} {between} {after} {result
     record {
       comes = rw (same, was.told) (was.asked ∙ append-nil before.asked, was.taken ∙ append-nil before.taken, is);
       idle = λ idle. rw same (was.pending ∙ idle);
+      busy =
+          λ told. subst (λ e. OnBusy (called.Refused e given) (before.pending ≡ true))
+          (ap errno_of (sym (ap (λ h. h.told) same ∙ was.told) ∙ told)) was.busy;
     }
 leads_makes call (called.Done x) {before} {between} {after} {result} was (same, is) =
     record {
       comes = rw (same, was.told) (was.asked, (x, was.taken, is));
       idle = λ idle. rw same (was.pending ∙ idle);
+      busy = λ told. absurd (true≢false (ap is_refused (sym told ∙ (ap (λ h. h.told) same ∙ was.told))));
     }
 leads_makes call called.Blocked {before} {between} {after} {result} was (x, took, none, kept, said, is) =
     record {
@@ -43,6 +62,7 @@ leads_makes call called.Blocked {before} {between} {after} {result} was (x, took
             (x, took ∙ ap (λ l. l ++ x ∷ []) (was.taken ∙ append-nil before.taken), is),
           );
       idle = λ idle. none;
+      busy = λ told. absurd (true≢false (ap is_refused (sym told ∙ (said ∙ was.told))));
     }
 
 -- the kind of the outcome stays the same until the completion is collected
@@ -93,19 +113,25 @@ after_first call x before =
 first_makes : (call : Call) (x : Completion) (before : History) → is_ok x.mark ≡ true
     → Makes done_in call before (after_first call x before) (Ok tt)
 first_makes call x before ok =
-    record { comes = (refl, (x, refl, done_of_ok x.mark x.buffer ok)); idle = λ idle. idle }
+    record {
+      comes = (refl, (x, refl, done_of_ok x.mark x.buffer ok));
+      idle = λ idle. idle;
+      busy = λ told. absurd (true≢false (ap is_refused (sym told)));
+    }
 
 -- the endpoint's record after the second of two calls, as after a call by itself
 second_answer : (first second : Call) (x : Completion) (answer : Called) (before after : History)
     → after.asked ≡ before.asked ++ (first ∷ (if is_call answer then second ∷ [] else []))
     → after.taken ≡ before.taken ++ (x ∷ gives answer) → after.pending ≡ pends answer before.pending
-    → after.told ≡ told_by answer → IsAnswer second answer (after_first first x before) after
-second_answer first second x answer before after asked taken pending told =
+    → after.told ≡ told_by answer → OnBusy answer (before.pending ≡ true)
+    → IsAnswer second answer (after_first first x before) after
+second_answer first second x answer before after asked taken pending told busy =
     record {
       asked = asked ∙ sym (append_assoc before.asked (first ∷ []) (if is_call answer then second ∷ [] else []));
       taken = taken ∙ sym (append_assoc before.taken (x ∷ []) (gives answer));
       pending = pending;
       told = told;
+      busy = busy;
     }
 
 -- both calls are made if the endpoint made both in one turn
@@ -113,15 +139,16 @@ pub both_make : (first second : Call) (x : Completion) (answer : Called) {before
     {result : Result Completed CallError} → is_ok x.mark ≡ true
     → between.asked ≡ before.asked ++ (first ∷ (if is_call answer then second ∷ [] else []))
     → between.taken ≡ before.taken ++ (x ∷ gives answer) → between.pending ≡ pends answer before.pending
-    → between.told ≡ told_by answer → Leads answer between after result
+    → between.told ≡ told_by answer → OnBusy answer (before.pending ≡ true) → Leads answer between after result
     → MakesBoth completed_in first second before after result
-both_make first second x answer {before} {between} {after} {result} ok asked taken pending told leads =
+both_make first second x answer {before} {between} {after} {result} ok asked taken pending told busy leads =
     record {
       between = after_first first x before;
       came = Ok tt;
       makes = first_makes first x before ok;
       follows =
-          leads_makes second answer (second_answer first second x answer before between asked taken pending told) leads;
+          leads_makes second answer
+          (second_answer first second x answer before between asked taken pending told busy) leads;
     }
 
 -- only the first is made, and fails

@@ -16,7 +16,7 @@ pub makes_off : {A : Type 0}
     (read : Reading A) {call : Call} {before after : History} {made : Result Completed CallError}
     → Makes completed_in call before after made → Makes read call before after (read_off read made)
 makes_off read {call} {before} {after} {made} m =
-    record { comes = comes-read read call before after made after.told m.comes; idle = m.idle }
+    record { comes = comes-read read call before after made after.told m.comes; idle = m.idle; busy = m.busy }
 
 -- the same for a result that is read from this completion, e
 pub makes_read : {A : Type 0} {read : Reading A} {call asked : Call} {before after : History} {made : Result Completed
@@ -29,4 +29,5 @@ makes_read {A} {read} {call} {asked} {before} {after} {made} {e} {result} m same
     record {
       comes = rw (← same_call, same) (comes-read read asked before after made after.told m.comes);
       idle = m.idle;
+      busy = m.busy;
     }

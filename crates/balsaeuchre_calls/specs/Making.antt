@@ -1,6 +1,7 @@
 -- The effect of a call: the calls that the endpoint made, the completions that it collected, and the
 -- completion from which the result is read.
 use Rattle.std.specs.Prelude.{◌≡◌, ◌⊎◌, ⊤, Bool, true, false, [], ◌∷◌, ◌++◌, Result, Ok, Err}
+use Rattle.qbase.specs.declared.errno.Errno.TheVariants.{Busy}
 use Rattle.qmodel.specs.declared.call.Call.{Call}
 use Rattle.qmodel.specs.declared.call.Completion.{Completion}
 use Rattle.qshared.specs.declared.port.Called.{Called}
@@ -29,11 +30,13 @@ Comes read call before after result (Refused errno) =
 Comes read call before after result Done = Ends read false call before after result
 Comes read call before after result Blocked = Ends read true call before after result
 
--- a call is made or refused, and afterwards no call is pending if none was before
+-- a call is made or refused, and afterwards no call is pending if none was before. It is refused as Busy only
+-- if one was
 pub record Makes {A : Type 0} (read : Reading A) (call : Call) (before after : History)
     (result : Result A CallError) : Type 0 where
   pub comes : Comes read call before after result after.told
   pub idle : before.pending ≡ false → after.pending ≡ false
+  pub busy : after.told ≡ Refused Busy → before.pending ≡ true
 
 -- a call with bytes is made or refused; or there was no memory for the bytes, and the endpoint did nothing
 abbrev pub MakesOfBytes : {A : Type 0} → Reading A → Call → History → History → Result A CallError → Type 0

@@ -4,8 +4,8 @@ ghost use Rattle.std.specs.Prelude.{◌≡◌, ◌++◌, [], ◌∷◌, Bool, tr
 ghost use Rattle.std.specs.Prelude.{List, if◌then◌else◌};
 ghost use Rattle.qshared.specs.Delivered.{taken};
 ghost use Rattle.qshared.specs.History.{Extends};
-ghost use Rattle.qshared.specs.Counting.{is_call, gives, pends};
-ghost use Rattle.qshared.specs.TwoCalls.{asked_by, gives_both, pends_both};
+ghost use Rattle.qshared.specs.Counting.{is_call, gives, pends, OnBusy};
+ghost use Rattle.qshared.specs.TwoCalls.{asked_by, gives_both, pends_both, OnBusyInBoth};
 ghost use Rattle.qmodel.specs.declared.call.Call.{Call as Asking};
 ghost use Rattle.qmodel.specs.declared.call.Completion.{Completion as Ending};
 ghost use Rattle.qshared.specs.declared.port.Called.{Called as Reply};
@@ -71,6 +71,7 @@ pub trait Endpoint {
             ++ (if is_call result then call ∷ [] else []) }
         ensures taken { (history self.new).taken ≡ (history self.old).taken ++ gives result }
         ensures pending { (history self.new).pending ≡ pends result (history self.old).pending }
+        ensures busy { OnBusy result ((history self.old).pending ≡ true) }
         ensures told { (history self.new).told ≡ told_by result }
         ensures came { came self.old call result (seen self.new) }
         ensures waits { (x : Ending) (after : Trace) → waited self.new x after
@@ -82,6 +83,7 @@ pub trait Endpoint {
         ensures asked { (history self.new).asked ≡ (history self.old).asked ++ asked_by first second result }
         ensures taken { (history self.new).taken ≡ (history self.old).taken ++ gives_both result }
         ensures pending { (history self.new).pending ≡ pends_both result (history self.old).pending }
+        ensures busy { OnBusyInBoth result ((history self.old).pending ≡ true) }
         ensures told { (history self.new).told ≡ told_by_both result }
         ensures turn { IsInTurn second result }
         ensures came { came_both self.old first second result (seen self.new) }

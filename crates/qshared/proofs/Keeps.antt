@@ -4,7 +4,7 @@ use Rattle.qshared.proofs.Common.{false, inl, inr, AllByRecursion, None, Option,
 use Rattle.qshared.proofs.Common.{eqb-true, same_Some, all_more, length-map, Busy, member_at, Member, Call, Completion}
 use Rattle.qshared.proofs.Common.{AreApart, gets, thread_at, with_event, among_member, caller_gets_its_own}
 use Rattle.qshared.proofs.Common.{completions_are_apart, is_blocked, Answers, AnswersAtTraces, State, KernelView, line}
-use Rattle.qshared.proofs.Common.{opened_kernel_view, cancelled_kernel_view, IsBusy, one, HasWaited, at_once, later_due}
+use Rattle.qshared.proofs.Common.{opened_kernel_view, cancelled_kernel_view, one, HasWaited, at_once, later_due}
 use Rattle.qshared.proofs.Common.{of_thread, place, completes, is_down, IsUnderLock, Admits, IsFree, IsServed}
 use Rattle.qshared.proofs.Common.{IsReason, IsEvent, Performs, Refuses, outcome, MayPut, Handed, matches_down}
 use Rattle.qshared.proofs.Common.{MayArrive}
@@ -13,7 +13,7 @@ use Rattle.qmodel.specs.Trace.{Trace}
 use Rattle.qrules.proofs.Traces.TraceLaws.Completion.{completions_name_own_calls}
 use Rattle.qrules.specs.Lawful.{facts_of}
 use Rattle.qshared.proofs.Places.{place_among, place_below}
-use Rattle.qshared.proofs.Turns.{gets_of, none_later, not_nil, of_one, own_number, waited_due}
+use Rattle.qshared.proofs.Turns.{gets_of, not_nil, of_one, own_number, waited_due}
 use Rattle.qshared.proofs.Telling.{undone, is_free, lawful_after, all_arrive, all_may_put, told_after}
 
 module _ (roster : List Member) (slots : ℕ) (kernel : State) (d : KernelView Completion) (threads : List ℕ)
@@ -31,18 +31,6 @@ module _ (roster : List Member) (slots : ℕ) (kernel : State) (d : KernelView C
     module _ (up : kernel.down ≡ false) where
       pub is_served : IsServed roster past t
       is_served = record { known = is_known; up = sym (matches_down roster kernel past h.told.matches) ∙ up }
-
-      pub is_busy : IsBusy (line d i) → IsReason roster past t Busy
-      is_busy b = (
-        is_served,
-        elim b [
-          | inl opened ↦ inl (sym (h.told.tied t i at).1 ∙ opened)
-          | inr full ↦
-              inr (λ none. full ((h.told.tied t i at).0
-              ∙ none_later (at_once past t) (later_due past t) _ (h.told.owed t i at).later
-              ((h.told.owed t i at).whole ∙ none)))
-        ],
-      )
 
       -- a thread is busy if one of its calls didn't complete in its own event, and the completion isn't
       -- collected

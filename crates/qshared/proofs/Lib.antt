@@ -1,4 +1,5 @@
 pub mod Beginning
+pub mod Busy
 pub mod Collecting
 pub mod Common
 pub mod Copying

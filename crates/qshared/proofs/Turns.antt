@@ -88,13 +88,6 @@ end_open [] = refl
 end_open (xs ∷ []) = refl
 end_open (xs ∷ ys ∷ once) = end_open (ys ∷ once)
 
--- there are no later completions if there are no completions at all
-pub none_later : (once : List (List Completion)) (later : List Completion) (blocked : Bool)
-    → AreLater blocked once later → in_turn once later ≡ [] → later ≡ []
-none_later once [] blocked l e = refl
-none_later once (z ∷ later) blocked l e =
-    absurd (scratch_some once (z ∷ later) (omega arith) (few_later once (z ∷ later) blocked l) e)
-
 -- if a call of a thread didn't complete in its own event, the thread is blocked or has a completion
 pub waited_due : (waiting : Bool) (once : List (List Completion)) (later : List Completion)
     → AreLater waiting once later → 0 < waits once → waiting ≡ false → in_turn once later ≡ [] → ⊥

@@ -1,5 +1,6 @@
 -- How the outcome of a call changes a port's counts and the completions that it took.
 use Rattle.std.specs.Prelude.{Bool, true, false, List, [], ◌∷◌}
+use Rattle.qbase.specs.declared.errno.Errno.TheVariants.{Busy}
 use Rattle.qmodel.specs.declared.call.Completion.{Completion}
 use Rattle.qshared.specs.declared.port.Called.{Called}
 use Rattle.qshared.specs.declared.port.Called.TheVariants.{Done, Blocked, Refused}
@@ -22,3 +23,8 @@ abbrev pub pends : Called → Bool → Bool
 pends (Done x) before = before
 pends Blocked before = true
 pends (Refused errno call) before = before
+
+-- if a call is refused as Busy, then this is true
+abbrev pub OnBusy : Called → Type 0 → Type 0
+OnBusy (Refused Busy call) Why = Why
+OnBusy called Why = Unit {0}

@@ -7,7 +7,7 @@ use Rattle.qmodel.specs.declared.call.Mark.{Mark}
 use Rattle.qmodel.specs.declared.call.Mark.TheVariants.{Ok}
 use Rattle.qmodel.specs.Trace.{Trace}
 use Rattle.qshared.specs.Answered.{Answered}
-use Rattle.qshared.specs.Counting.{is_call, gives, pends}
+use Rattle.qshared.specs.Counting.{is_call, gives, pends, OnBusy}
 use Rattle.qshared.specs.Performing.{Admits, Refuses}
 use Rattle.qshared.specs.declared.port.Called.{Called}
 use Rattle.qshared.specs.declared.port.Called.TheVariants.{Done, Blocked}
@@ -57,3 +57,8 @@ AnsweredBoth roster refuses admits t c d (Both x second) past after =
     × Answered roster refuses admits t d second between after)
 AnsweredBoth roster refuses admits t c d (First first given) past after =
     (is_accepted first ≡ false) × Answered roster refuses admits t c first past after × (given ≡ d)
+
+-- if the call of the two that was made last is refused as Busy, then this is true
+abbrev pub OnBusyInBoth : CalledPair → Type 0 → Type 0
+OnBusyInBoth (Both x second) Why = OnBusy second Why
+OnBusyInBoth (First first given) Why = OnBusy first Why

@@ -40,6 +40,7 @@ pub(crate) fn admit(
         (λ e. ¬ (call.now ≡ Shutdown)
         × (((e ≡ Errno.TraceFull) × (length log.old.events + 1 ≡ limit))
         ⊎ ((e ≡ Errno.NoMemory) × (length log.old.events + 1 < limit)))) }
+    ensures idle { IfErr result (λ e. ¬ (e ≡ Errno.Busy)) }
 {
     if matches!(call, Call::Shutdown) {
         return Ok((Call::Shutdown, Preallocated::none(alloc)));

@@ -12,13 +12,10 @@ use crate::history::Prefix;
 use qhandoff::cells::Cells;
 use qhandoff::seats::KernelSeat;
 use qmodel::call::Completion;
+use std::sync::Wait;
 
 /// Opens a cell and returns `true`, or returns `false` if the cell isn't idle.
-pub(crate) fn open(
-    seat: &mut KernelSeat<Delivery>,
-    cells: &Cells<Delivery, Origin>,
-    cell: usize,
-) -> bool
+fn try_open(seat: &mut KernelSeat<Delivery>, cells: &Cells<Delivery, Origin>, cell: usize) -> bool
     requires cells { kernel_id seat.old ≡ cells_id cells.now }
     requires cell { cell < count cells.now }
     ensures cells { kernel_id seat.new ≡ kernel_id seat.old }
@@ -28,6 +25,28 @@ pub(crate) fn open(
         ((kernel_view seat.new ≡ kernel_view seat.old) × IsBusy (line (kernel_view seat.old) cell)) }
 {
     seat.open(cells, cell)
+}
+
+/// Opens a cell, and waits while the cell isn't idle. A thread without a pending call took all its
+/// completions, so its cell is idle at once.
+pub(crate) fn open<R: Wait>(
+    seat: &mut KernelSeat<Delivery>,
+    cells: &Cells<Delivery, Origin>,
+    cell: usize,
+    rt: &R,
+)
+    requires cells { kernel_id seat.old ≡ cells_id cells.now }
+    requires cell { cell < count cells.now }
+    ensures cells { kernel_id seat.new ≡ kernel_id seat.old }
+    ensures kernel_view { kernel_view seat.new ≡ opened_kernel_view (kernel_view seat.old) cell }
+    ensures closed { (line (kernel_view seat.old) cell).opened ≡ false }
+{
+    for _ in rt.forever() {
+        if try_open(seat, cells, cell) {
+            return;
+        }
+    }
+    unreachable!()
 }
 
 /// Makes an opened cell idle again.

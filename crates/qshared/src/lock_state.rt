@@ -7,7 +7,7 @@ ghost use Rattle.qrules.specs.Facts.{threads_of};
 ghost use Rattle.qhandoff.specs.Words.{cells_id};
 ghost use Rattle.qshared.specs.Asking.{AreCallsOf, WaitedBefore, heard_in};
 ghost use Rattle.qshared.specs.Answered.{Answered, IsMet};
-ghost use Rattle.qshared.specs.Counting.{is_call};
+ghost use Rattle.qshared.specs.Counting.{is_call, OnBusy};
 ghost use Rattle.qshared.specs.Delivered.{origin_of, IsOrigin};
 ghost use Rattle.qshared.specs.Due.{place};
 
@@ -23,6 +23,7 @@ use crate::traced::Traced;
 use qhandoff::cells::Cells;
 use qmodel::call::Call;
 use std::snapshot::Snapshot;
+use std::sync::Wait;
 use std::sync::ledger::{Book, Share};
 
 /// The value under the lock: the kernel with its history, the book that counts the history's events, and the
@@ -82,9 +83,10 @@ impl<K: Tie, L: Log> LockState<K, L> {
 
     /// Makes a call of the thread that `scratch` belongs to. If the call is an event, counts it in the
     /// thread's share and adds it to the thread's list. Afterwards `seen` is the whole history.
-    pub(crate) fn call(
+    pub(crate) fn call<R: Wait>(
         &mut self,
         cells: &Cells<Delivery, Origin>,
+        rt: &R,
         scratch: &mut CallScratch,
         share: &mut Share<K>,
         asked: &mut PortCalls,
@@ -104,6 +106,7 @@ impl<K: Tie, L: Log> LockState<K, L> {
         ensures met { IsMet K.names.roster scratch.old.seat.thread asked.old.calls seen.old.trace
             self.old.traced.past }
         ensures idle { is_call result ≡ true → scratch.old.pending ≡ false }
+        ensures busy { OnBusy result (scratch.old.pending ≡ true) }
         ensures came { Answered K.names.roster L.refuses L.admits scratch.old.seat.thread call result
             self.old.traced.past seen.new.trace }
         ensures past { self.new.traced.past ≡ seen.new.trace }
@@ -121,7 +124,7 @@ impl<K: Tie, L: Log> LockState<K, L> {
         self.book.audit(share);
         agree(asked, &mut self.heard, cell);
         let asking = Snapshot::of(&call);
-        let called = self.traced.perform(cells, scratch, seen, call);
+        let called = self.traced.perform(cells, rt, scratch, seen, call);
         if is_call(&called) {
             asked.ask(&mut self.heard[cell], &asking);
             self.book.add(share, 1);

@@ -2,6 +2,7 @@
 
 ghost use Rattle.std.specs.Prelude.{◌≡◌, ◌∷◌, ◌<◌, ◌^◌, Bool, List, length, IfErr, IfSome, OnOk, is_some};
 ghost use Rattle.std.specs.Prelude.{true, false};
+ghost use Rattle.qbase.specs.declared.errno.Errno.TheVariants.{Busy};
 ghost use Rattle.qtables.specs.Members.{member_at};
 ghost use Rattle.qtables.specs.declared.member.Member.{Member};
 ghost use Rattle.qmodel.specs.declared.call.Call.{Call};
@@ -58,7 +59,8 @@ pub trait Log: Drop {
         ensures noted { OnOk result ((noted self.new ≡ call.now) × (ready self.new ≡ true)) }
         ensures admitted { OnOk result (admits (past self.old) call.now) }
         ensures few { OnOk result (length (past self.old) < 2 ^ 40) }
-        ensures refused { IfErr result (λ e. refuses (past self.old) call.now e) };
+        ensures refused { IfErr result (λ e. refuses (past self.old) call.now e) }
+        ensures idle { IfErr result (λ e. ¬ (e ≡ Busy)) };
 
     /// Adds an event: the noted call, which the thread at this index made, with these completions. The thread
     /// wasn't blocked before the call.

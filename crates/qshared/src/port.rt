@@ -9,8 +9,9 @@ ghost use Rattle.qshared.specs.History.{Extends};
 ghost use Rattle.qshared.specs.Asking.{IsSince, calls_of};
 ghost use Rattle.qshared.specs.Due.{AreLater, at_once, collected, place};
 ghost use Rattle.qshared.specs.Answered.{AtPast, IsMet, Answered};
-ghost use Rattle.qshared.specs.Counting.{is_call, gives, pends};
+ghost use Rattle.qshared.specs.Counting.{is_call, gives, pends, OnBusy};
 ghost use Rattle.qshared.specs.TwoCalls.{AnsweredBoth, is_ok, calls_in, asked_by, gives_both, pends_both};
+ghost use Rattle.qshared.specs.TwoCalls.{OnBusyInBoth};
 
 use crate::asking::PortCalls;
 use crate::call_scratch::CallScratch;
@@ -236,9 +237,9 @@ impl<K: Tie> Port<K> {
     /// Makes a call under the lock, and may wait for the lock. If the call completes in its own event, the
     /// port takes the completion.
     ///
-    /// The call is refused with `Down` after a Shutdown. Otherwise it is refused with `Busy` if the thread
-    /// has an open call, or a completion that isn't collected. Otherwise the log may refuse it, unless it is
-    /// a Shutdown.
+    /// The call is refused with `Down` after a Shutdown. Otherwise it is refused with `Busy` if the
+    /// completion of a blocked call isn't collected yet, and only then. Otherwise the log may refuse it,
+    /// unless it is a Shutdown.
     ///
     /// A log that keeps the history refuses with `TraceFull` if one event of the limit is left, and with
     /// `NoMemory` if there was no memory for the trace. A log that keeps none refuses with `Exhausted` if one
@@ -252,6 +253,7 @@ impl<K: Tie> Port<K> {
         ensures asked { self.new.asked.calls ≡ self.old.asked.calls
             ++ (if is_call result then call ∷ [] else []) }
         ensures pending { self.new.scratch.pending ≡ pends result self.old.scratch.pending }
+        ensures busy { OnBusy result (self.old.scratch.pending ≡ true) }
         ensures taken { collected self.new.last.trace self.new.thread (taken self.new.seat)
             ≡ collected self.old.last.trace self.old.thread (taken self.old.seat) ++ gives result }
         ensures last { self.new.last.trace ≡ self.new.seen.trace }
@@ -263,7 +265,7 @@ impl<K: Tie> Port<K> {
         self.scratch.copies = L::copies(self.scratch.alloc, &call);
         let called = {
             let mut guard = spinning::lock(&*shared.lock, shared.looks, rt);
-            self.make(&shared.cells, &mut **guard, call)
+            self.make(&shared.cells, rt, &mut **guard, call)
         };
         shared.wake(self.scratch.woken);
         self.scratch.copies = None;
@@ -287,6 +289,7 @@ impl<K: Tie> Port<K> {
         ensures calls { self.new.calls ≡ self.old.calls + calls_in result }
         ensures asked { self.new.asked.calls ≡ self.old.asked.calls ++ asked_by first second result }
         ensures pending { self.new.scratch.pending ≡ pends_both result self.old.scratch.pending }
+        ensures busy { OnBusyInBoth result (self.old.scratch.pending ≡ true) }
         ensures taken { collected self.new.last.trace self.new.thread (taken self.new.seat)
             ≡ collected self.old.last.trace self.old.thread (taken self.old.seat) ++ gives_both result }
         ensures last { self.new.last.trace ≡ self.new.seen.trace }
@@ -300,12 +303,12 @@ impl<K: Tie> Port<K> {
         let called = {
             let mut guard = spinning::lock(&*shared.lock, shared.looks, rt);
             let locked = &mut **guard;
-            let first = self.make(&shared.cells, locked, first);
+            let first = self.make(&shared.cells, rt, locked, first);
             match first {
                 Called::Done(completion) => {
                     if is_ok(completion.mark) {
                         self.scratch.copies = copies.take();
-                        let second = self.make(&shared.cells, locked, second);
+                        let second = self.make(&shared.cells, rt, locked, second);
                         CalledPair::Both(completion, second)
                     } else {
                         CalledPair::First(Called::Done(completion), second)
@@ -324,9 +327,10 @@ impl<K: Tie> Port<K> {
     }
 
     /// Makes a call of the thread under the lock, which the caller holds.
-    fn make<L: Log>(
+    fn make<L: Log, R: Wait>(
         &mut self,
         cells: &Cells<Delivery, Origin>,
+        rt: &R,
         locked: &mut LockState<K, L>,
         call: Call,
     ) -> Called
@@ -341,6 +345,7 @@ impl<K: Tie> Port<K> {
         ensures asked { self.new.asked.calls ≡ self.old.asked.calls
             ++ (if is_call result then call ∷ [] else []) }
         ensures pending { self.new.scratch.pending ≡ pends result self.old.scratch.pending }
+        ensures busy { OnBusy result (self.old.scratch.pending ≡ true) }
         ensures taken { collected self.new.last.trace self.new.thread (taken self.new.seat)
             ≡ collected self.old.last.trace self.old.thread (taken self.old.seat) ++ gives result }
         ensures last { self.new.last.trace ≡ self.new.seen.trace }
@@ -349,6 +354,7 @@ impl<K: Tie> Port<K> {
     {
         let called = locked.call(
             cells,
+            rt,
             &mut self.scratch,
             &mut self.share,
             &mut self.asked,

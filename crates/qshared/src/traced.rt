@@ -11,7 +11,7 @@ ghost use Rattle.qhandoff.specs.Steps.{seated_kernel_view};
 ghost use Rattle.qshared.specs.History.{Extends};
 ghost use Rattle.qhandoff.specs.Words.{cells_id, kernel_id};
 ghost use Rattle.qshared.specs.Asking.{WaitedBefore, calls_of};
-ghost use Rattle.qshared.specs.Counting.{is_call};
+ghost use Rattle.qshared.specs.Counting.{is_call, OnBusy};
 ghost use Rattle.qshared.specs.Delivered.{kernel_view, origin_of, IsOrigin};
 ghost use Rattle.qshared.specs.Due.{place};
 ghost use Rattle.qshared.specs.Performing.{Performs, outcome};
@@ -34,6 +34,7 @@ use qkernel::thread_ref::ThreadRef;
 use qmodel::call::{Call, Completion};
 use std::marker::{Model, PhantomData};
 use std::snapshot::Snapshot;
+use std::sync::Wait;
 
 /// A kernel with its history, and the kernel's token of the cells. This is the value under the lock, without
 /// the count of the ports' calls.
@@ -145,11 +146,12 @@ impl<K: Tie, L: Log> Traced<K, L> {
     /// completed, closes the thread's cell and returns the completion. Afterwards `seen` is the whole
     /// history.
     ///
-    /// The call is refused with `Down` after a Shutdown. Otherwise it is refused with `Busy` if the thread
-    /// has an open call, or a completion that it didn't take. Otherwise the log may refuse it.
-    pub fn perform(
+    /// The call is refused with `Down` after a Shutdown. Otherwise it is refused with `Busy` if the
+    /// completion of a blocked call isn't collected yet. Otherwise the log may refuse it.
+    pub fn perform<R: Wait>(
         &mut self,
         cells: &Cells<Delivery, Origin>,
+        rt: &R,
         scratch: &mut CallScratch,
         seen: &mut Prefix,
         call: Call,
@@ -164,6 +166,7 @@ impl<K: Tie, L: Log> Traced<K, L> {
         requires seen { seen.old.name ≡ K.names.history }
         requires copies { IfSome scratch.old.copies (λ c. c ≡ call) }
         ensures idle { is_call result ≡ true → scratch.old.pending ≡ false }
+        ensures busy { OnBusy result (scratch.old.pending ≡ true) }
         ensures performs { Performs K.names.roster L.refuses L.admits self.old scratch.old.seat.thread call
             result self.new }
         ensures seat { (scratch.new.seat ≡ scratch.old.seat) × (scratch.new.pending ≡ scratch.old.pending) }
@@ -181,9 +184,7 @@ impl<K: Tie, L: Log> Traced<K, L> {
         if scratch.pending {
             return Called::Refused(Errno::Busy, call);
         }
-        if !open(&mut self.seat, cells, place) {
-            return Called::Refused(Errno::Busy, call);
-        }
+        open(&mut self.seat, cells, place, rt);
         let asking = Snapshot::of(&call);
         let made = self.kernel.made();
         let copies = scratch.copies.take();

@@ -8,14 +8,14 @@ pub returns-in-Both-clause-makes : goal.returns-in-Both-clause-makes
 returns-in-Both-clause-makes g c =
     let was = c.in-Both.ensures in
     both_make c.args.first c.args.second c.in-Both.field-0 c.in-Both.called was.turn was.asked was.taken was.pending
-    was.told c.completed_of.ensures.leads
+    was.told was.busy c.completed_of.ensures.leads
 
 pub returns-in_err-completed_of-in-First-clause-makes : goal.returns-in_err-completed_of-in-First-clause-makes
 returns-in_err-completed_of-in-First-clause-makes g c =
     let was = c.in-First.ensures in
     let p = err_from_is_err_and c.from_residual.result c.from_residual.ensures.1 in
     first_fails c.args.first c.args.second c.in-First.called c.completed_of-in-First.result
-    (record { asked = was.asked; taken = was.taken; pending = was.pending; told = was.told })
+    (record { asked = was.asked; taken = was.taken; pending = was.pending; told = was.told; busy = was.busy })
     c.completed_of-in-First.ensures.leads
     (ap (read_off done_in) c.in_err-completed_of-in-First.was) (p.1 ∙ ap Err p.2)
 
@@ -25,7 +25,7 @@ returns-in_err-done-in-First-clause-makes g c =
     let p =
     err_from_is_err_and c.from_residual-in_err-done-in-First.result c.from_residual-in_err-done-in-First.ensures.1 in
     first_fails c.args.first c.args.second c.in-First.called c.completed_of-in-First.result
-    (record { asked = was.asked; taken = was.taken; pending = was.pending; told = was.told })
+    (record { asked = was.asked; taken = was.taken; pending = was.pending; told = was.told; busy = was.busy })
     c.completed_of-in-First.ensures.leads
     (reads_done c.in_ok-completed_of-in-First.was c.done.ensures c.in_err-done-in-First.was) (p.1 ∙ ap Err p.2)
 
@@ -33,7 +33,7 @@ pub returns-clause-makes : goal.returns-clause-makes
 returns-clause-makes g c =
     let was = c.in-First.ensures in
     second_makes c.args.first c.args.second c.in-First.called c.completed_of-in-First.result
-    (record { asked = was.asked; taken = was.taken; pending = was.pending; told = was.told })
+    (record { asked = was.asked; taken = was.taken; pending = was.pending; told = was.told; busy = was.busy })
     c.completed_of-in-First.ensures.leads
     (reads_done c.in_ok-completed_of-in-First.was c.done.ensures c.in_ok-done-in-First.was) was.turn.1
     c.make.ensures.makes

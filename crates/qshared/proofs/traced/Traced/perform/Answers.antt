@@ -4,9 +4,10 @@ use Rattle.qshared.proofs.Common.{calls_of, place}
 use Rattle.qshared.proofs.Common.{AnswersAtTraces, matches_down, matches_made, matches_roster}
 use Rattle.qshared.proofs.Turns.{still_waited}
 use Rattle.qshared.proofs.Places.{seat_at_place}
-use Rattle.qshared.proofs.Keeps.{is_known, is_shut, is_busy, is_pending, free, same_kernel_view, held_after, apart}
+use Rattle.qshared.proofs.Keeps.{is_known, is_shut, is_pending, free, same_kernel_view, held_after, apart}
 use Rattle.qshared.proofs.Deliveries.{wide_lines}
 use Rattle.qshared.proofs.Keeps.{may_arrive, may_put, performs}
+use Rattle.qshared.proofs.Busy.{made_busy, other_error}
 use Rattle.qshared.proofs.traced.Traced.perform.Goals as goal
 
 pub returns-then-is_down-clause-performs : goal.returns-then-is_down-clause-performs
@@ -20,18 +21,6 @@ returns-then-is_down-clause-performs g c =
         is_shut _ _ _ _ _ _ c.self.invariant.2 seat.thread seat.index c.requires.seat
             (sym c.is_down.ensures ∙ c.if-is_down.true),
       ),
-    )
-
-pub returns-then-not-open-clause-performs : goal.returns-then-not-open-clause-performs
-returns-then-not-open-clause-performs g c =
-    let at : place (threads_of g.K.Tie.names.roster) c.args.scratch.now.seat.thread ≡ Some c.index-place.result =
-    c.requires.seat ∙ ap Some (sym c.index-place.ensures) in
-    let up = sym c.is_down.ensures ∙ c.if-is_down.false in
-    rw (← c.self.view_is, c.if-not-open.ensures.kernel_view.0) (
-      refl,
-      refl,
-      inl (is_busy _ _ _ _ _ _ c.self.invariant.2 c.args.scratch.now.seat.thread c.index-place.result at up
-          c.if-not-open.ensures.kernel_view.1),
     )
 
 pub returns-then-scratch-clause-performs : goal.returns-then-scratch-clause-performs
@@ -59,13 +48,14 @@ invariant_of-self-in-Err g c =
     let at : place (threads_of g.K.Tie.names.roster) c.args.scratch.now.seat.thread ≡ Some c.index-place.result =
     c.requires.seat ∙ ap Some (sym c.index-place.ensures) in
     let up = sym c.is_down.ensures ∙ c.if-is_down.false in
-    let opened = c.if-not-open.ensures.kernel_view in
+    let opened = c.open.ensures.kernel_view in
+    let closed = c.open.ensures.closed in
     let wide : length (kernel_view c.self.inside.seat).lines ≡ g.K.Tie.names.cells.slots = wide_lines c.self.inside.seat
     ∙ ap (λ z. z.slots) c.self.invariant.0 in
     let whole : kernel_view c.cancel.new.seat ≡ kernel_view c.self.inside.seat =
-    c.cancel.ensures.kernel_view ∙ ap (λ d. cancelled_kernel_view d c.index-place.result) opened.0
+    c.cancel.ensures.kernel_view ∙ ap (λ d. cancelled_kernel_view d c.index-place.result) opened
     ∙ same_kernel_view _ _ _ _ _ _ c.self.invariant.2 c.args.scratch.now.seat.thread c.index-place.result at up
-    opened.1 wide in
+    closed wide in
     let same = c.note.ensures.same in (
       c.cancel.ensures.cells ∙ c.open.ensures.cells ∙ c.self.invariant.0,
       same.1 ∙ c.self.invariant.1,
@@ -82,19 +72,20 @@ returns-in-Err-clause-performs g c =
     let at : place (threads_of g.K.Tie.names.roster) c.args.scratch.now.seat.thread ≡ Some c.index-place.result =
     c.requires.seat ∙ ap Some (sym c.index-place.ensures) in
     let up = sym c.is_down.ensures ∙ c.if-is_down.false in
-    let opened = c.if-not-open.ensures.kernel_view in
+    let opened = c.open.ensures.kernel_view in
+    let closed = c.open.ensures.closed in
     let wide : length (kernel_view c.self.inside.seat).lines ≡ g.K.Tie.names.cells.slots = wide_lines c.self.inside.seat
     ∙ ap (λ z. z.slots) c.self.invariant.0 in
     let whole : kernel_view c.cancel.new.seat ≡ kernel_view c.self.inside.seat =
-    c.cancel.ensures.kernel_view ∙ ap (λ d. cancelled_kernel_view d c.index-place.result) opened.0
+    c.cancel.ensures.kernel_view ∙ ap (λ d. cancelled_kernel_view d c.index-place.result) opened
     ∙ same_kernel_view _ _ _ _ _ _ c.self.invariant.2 c.args.scratch.now.seat.thread c.index-place.result at up
-    opened.1 wide in
+    closed wide in
     let same = c.note.ensures.same in
     rw (← c.self.view_is, whole, same.0) (
       refl,
       refl,
       inr (
-        free _ _ _ _ _ _ c.self.invariant.2 c.args.scratch.now.seat.thread c.index-place.result at up opened.1 wide,
+        free _ _ _ _ _ _ c.self.invariant.2 c.args.scratch.now.seat.thread c.index-place.result at up closed wide,
         c.in-Err.ensures.refused,
       ),
     )
@@ -122,13 +113,13 @@ event-requires-clause-thread g c =
     let at : place (threads_of g.K.Tie.names.roster) c.args.scratch.now.seat.thread ≡ Some c.index-place.result =
     c.requires.seat ∙ ap Some (sym c.index-place.ensures) in
     let up = sym c.is_down.ensures ∙ c.if-is_down.false in
-    let opened = c.if-not-open.ensures.kernel_view in
+    let closed = c.open.ensures.closed in
     let wide : length (kernel_view c.self.inside.seat).lines ≡ g.K.Tie.names.cells.slots = wide_lines c.self.inside.seat
     ∙ ap (λ z. z.slots) c.self.invariant.0 in
     let same = c.note.ensures.same in
     rw (same.1 ∙ c.self.invariant.1, same.0) (
       is_known _ _ _ _ _ _ c.self.invariant.2 c.args.scratch.now.seat.thread c.index-place.result at,
-      (free _ _ _ _ _ _ c.self.invariant.2 c.args.scratch.now.seat.thread c.index-place.result at up opened.1
+      (free _ _ _ _ _ _ c.self.invariant.2 c.args.scratch.now.seat.thread c.index-place.result at up closed
           wide).idle,
     )
 
@@ -146,10 +137,10 @@ hand_out-own-requires-clause-apart g c =
     let at : place (threads_of g.K.Tie.names.roster) c.args.scratch.now.seat.thread ≡ Some c.index-place.result =
     c.requires.seat ∙ ap Some (sym c.index-place.ensures) in
     let up = sym c.is_down.ensures ∙ c.if-is_down.false in
-    let opened = c.if-not-open.ensures.kernel_view in
+    let closed = c.open.ensures.closed in
     let wide : length (kernel_view c.self.inside.seat).lines ≡ g.K.Tie.names.cells.slots = wide_lines c.self.inside.seat
     ∙ ap (λ z. z.slots) c.self.invariant.0 in
-    apart _ _ _ _ _ _ c.self.invariant.2 c.args.scratch.now.seat.thread c.index-place.result at up opened.1 wide
+    apart _ _ _ _ _ _ c.self.invariant.2 c.args.scratch.now.seat.thread c.index-place.result at up closed wide
     c.in_default.ensures.few c.args.call c.make_at.new.completions.items c.make_at.new.kernel event
 
 pub hand_out-own-requires-clause-may : goal.hand_out-own-requires-clause-may
@@ -159,11 +150,12 @@ hand_out-own-requires-clause-may g c =
     let at : place (threads_of g.K.Tie.names.roster) c.args.scratch.now.seat.thread ≡ Some c.index-place.result =
     c.requires.seat ∙ ap Some (sym c.index-place.ensures) in
     let up = sym c.is_down.ensures ∙ c.if-is_down.false in
-    let opened = c.if-not-open.ensures.kernel_view in
+    let opened = c.open.ensures.kernel_view in
+    let closed = c.open.ensures.closed in
     let wide : length (kernel_view c.self.inside.seat).lines ≡ g.K.Tie.names.cells.slots = wide_lines c.self.inside.seat
     ∙ ap (λ z. z.slots) c.self.invariant.0 in
-    rw (c.make_at.ensures.roster, opened.0)
-    (may_put _ _ _ _ _ _ c.self.invariant.2 c.args.scratch.now.seat.thread c.index-place.result at up opened.1 wide
+    rw (c.make_at.ensures.roster, opened)
+    (may_put _ _ _ _ _ _ c.self.invariant.2 c.args.scratch.now.seat.thread c.index-place.result at up closed wide
     c.in_default.ensures.few c.args.call c.make_at.new.completions.items c.make_at.new.kernel event)
 
 pub invariant_of-self-2 : goal.invariant_of-self-2
@@ -173,10 +165,11 @@ invariant_of-self-2 g c =
     let at : place (threads_of g.K.Tie.names.roster) c.args.scratch.now.seat.thread ≡ Some c.index-place.result =
     c.requires.seat ∙ ap Some (sym c.index-place.ensures) in
     let up = sym c.is_down.ensures ∙ c.if-is_down.false in
-    let opened = c.if-not-open.ensures.kernel_view in
+    let opened = c.open.ensures.kernel_view in
+    let closed = c.open.ensures.closed in
     let wide : length (kernel_view c.self.inside.seat).lines ≡ g.K.Tie.names.cells.slots = wide_lines c.self.inside.seat
     ∙ ap (λ z. z.slots) c.self.invariant.0 in
-    let handed = rw (c.make_at.ensures.roster, opened.0) at c.hand_out-own.ensures.handed in
+    let handed = rw (c.make_at.ensures.roster, opened) at c.hand_out-own.ensures.handed in
     let past = c.event.ensures.event
     ∙ ap (λ x. with_event c.args.scratch.now.seat.thread (g.L.Log.noted c.note.new.self) x.items
     (g.L.Log.past c.note.new.self)) c.deref.ensures
@@ -195,7 +188,7 @@ invariant_of-self-2 g c =
       c.hand_out-own.ensures.cells ∙ c.open.ensures.cells ∙ c.self.invariant.0,
       c.event.ensures.same ∙ c.note.ensures.same.1 ∙ c.self.invariant.1,
       rw (past, c.make_at.ensures.roster)
-          (held_after _ _ _ _ _ _ c.self.invariant.2 c.args.scratch.now.seat.thread c.index-place.result at up opened.1
+          (held_after _ _ _ _ _ _ c.self.invariant.2 c.args.scratch.now.seat.thread c.index-place.result at up closed
           wide c.in_default.ensures.few c.args.call c.make_at.new.completions.items c.make_at.new.kernel event
           (kernel_view c.hand_out-own.new.seat) handed),
       (
@@ -212,7 +205,7 @@ returns-clause-performs g c =
     let at : place (threads_of g.K.Tie.names.roster) c.args.scratch.now.seat.thread ≡ Some c.index-place.result =
     c.requires.seat ∙ ap Some (sym c.index-place.ensures) in
     let up = sym c.is_down.ensures ∙ c.if-is_down.false in
-    let opened = c.if-not-open.ensures.kernel_view in
+    let closed = c.open.ensures.closed in
     let wide : length (kernel_view c.self.inside.seat).lines ≡ g.K.Tie.names.cells.slots = wide_lines c.self.inside.seat
     ∙ ap (λ z. z.slots) c.self.invariant.0 in
     let past = c.event.ensures.event
@@ -223,7 +216,7 @@ returns-clause-performs g c =
     ∙ ap (λ p. with_event c.args.scratch.now.seat.thread c.args.call c.make_at.new.completions.items p)
     c.note.ensures.same.0 in
     rw (← c.self.view_is, c.ended_or_open.ensures, past)
-    (performs _ _ _ _ _ _ c.self.invariant.2 c.args.scratch.now.seat.thread c.index-place.result at up opened.1 wide
+    (performs _ _ _ _ _ _ c.self.invariant.2 c.args.scratch.now.seat.thread c.index-place.result at up closed wide
     c.in_default.ensures.few c.args.call c.make_at.new.completions.items c.make_at.new.kernel event g.L.Log.refuses
     g.L.Log.admits _ c.in_default.ensures.admitted c.hand_out-own.result c.hand_out-own.ensures.own)
 
@@ -255,7 +248,8 @@ hand_out-own-requires-clause-arrive g c =
     let at : place (threads_of g.K.Tie.names.roster) c.args.scratch.now.seat.thread ≡ Some c.index-place.result =
     c.requires.seat ∙ ap Some (sym c.index-place.ensures) in
     let up = sym c.is_down.ensures ∙ c.if-is_down.false in
-    let opened = c.if-not-open.ensures.kernel_view in
+    let opened = c.open.ensures.kernel_view in
+    let closed = c.open.ensures.closed in
     let wide : length (kernel_view c.self.inside.seat).lines ≡ g.K.Tie.names.cells.slots =
     wide_lines c.self.inside.seat ∙ ap (λ z. z.slots) c.self.invariant.0 in
     let t = c.args.scratch.now.seat.thread in
@@ -266,6 +260,12 @@ hand_out-own-requires-clause-arrive g c =
     c.of-asking.ensures ∙ ap (λ x. with_event t c.args.call x.items c.look.new.self.trace) c.deref-2.ensures
     ∙ ap (λ h. with_event t c.args.call X h.trace) c.look.ensures.same
     ∙ ap (λ p. with_event t c.args.call X p) c.self.invariant.3.1 in
-    rw (c.requires.cells.1.0, c.make_at.ensures.roster, opened.0, seen)
-    (may_arrive _ _ _ _ _ _ c.self.invariant.2 c.args.scratch.now.seat.thread c.index-place.result at up opened.1 wide
+    rw (c.requires.cells.1.0, c.make_at.ensures.roster, opened, seen)
+    (may_arrive _ _ _ _ _ _ c.self.invariant.2 c.args.scratch.now.seat.thread c.index-place.result at up closed wide
     c.in_default.ensures.few c.args.call c.make_at.new.completions.items c.make_at.new.kernel event)
+
+pub returns-in-Err-clause-busy : goal.returns-in-Err-clause-busy
+returns-in-Err-clause-busy g c = other_error c.in-Err.errno c.args.call _ c.in-Err.ensures.idle
+
+pub returns-clause-busy : goal.returns-clause-busy
+returns-clause-busy g c = rw (c.ended_or_open.ensures) (made_busy c.hand_out-own.result _)
