@@ -3,5 +3,5 @@
 
 pub use crate::completing::{completions_are_seen, completions_in_real_time};
 pub use crate::fitting::results_fit_calls;
-pub use qrules_laws::{completions, ids, open_calls, pending};
+pub use qrules_laws::{completions, ids, open_calls, pending, properties};
 pub use qshared::history_laws::{in_real_time, is_beginning, taken_is_due};

@@ -7,3 +7,4 @@ pub mod completions;
 pub mod ids;
 pub mod open_calls;
 pub mod pending;
+pub mod properties;
