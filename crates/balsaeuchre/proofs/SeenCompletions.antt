@@ -17,8 +17,8 @@ use Rattle.qshared.specs.Counting.{is_call}
 use Rattle.qshared.specs.Delivered.{EndsWith, IsAwaited, newest_call}
 use Rattle.qshared.specs.History.{Extends}
 use Rattle.qshared.specs.Performing.{Admits, Refuses}
-use Rattle.qshared.specs.declared.port.Called.{Called}
-use Rattle.qshared.specs.declared.port.Called.TheVariants as called
+use Rattle.qshared.specs.declared.called.Called.{Called}
+use Rattle.qshared.specs.declared.called.Called.TheVariants as called
 use Rattle.balsaeuchre_calls.specs.Coming.{Gives}
 use Rattle.balsaeuchre_calls.specs.History.{History}
 use Rattle.balsaeuchre_calls.specs.Making.{Comes, Makes}

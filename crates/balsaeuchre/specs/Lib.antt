@@ -25,6 +25,7 @@ pub use Rattle.qshared.specs.History as SeenPast
 pub use Rattle.qhandoff.specs.Words
 pub use Rattle.qshared.specs.Answered
 pub use Rattle.qshared.specs.Asking
+pub use Rattle.qshared.specs.Collected
 pub use Rattle.qshared.specs.Counting
 pub use Rattle.qshared.specs.Delivered
 pub use Rattle.qshared.specs.Due
@@ -49,4 +50,5 @@ pub use Rattle.qrules_laws.specs.Completions
 pub use Rattle.qrules_laws.specs.OpenCalls
 pub use Rattle.qrules_laws.specs.Pending
 pub use Rattle.qrules_laws.specs.Ids
+pub use Rattle.qrules_laws.specs.Properties as PropertyLaws
 pub use Rattle.qshared.specs.HistoryLaws

@@ -5,11 +5,12 @@
 //! returns a report: the history, if the kernel keeps it, the number of calls, and the completions that
 //! weren't collected.
 
+pub use qshared::called::{Called, CalledPair};
 pub use qshared::ghost_history::GhostHistory;
 pub use qshared::log::Log;
 pub use qshared::observed_prefix::ObservedPrefix;
 pub use qshared::parts::Parts;
-pub use qshared::port::{Called, CalledPair, Port};
+pub use qshared::port::Port;
 pub use qshared::recorded_history::RecordedHistory;
 pub use qshared::report::{EventCounts, Report};
 pub use qshared::shared::Shared;

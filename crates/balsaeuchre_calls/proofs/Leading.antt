@@ -13,8 +13,8 @@ use Rattle.balsaeuchre_calls.specs.declared.endpoint.LastOutcome.{LastOutcome}
 use Rattle.balsaeuchre_calls.specs.declared.endpoint.LastOutcome.TheVariants.{Refused}
 use Rattle.qmodel.specs.declared.call.Mark.{Mark}
 use Rattle.qmodel.specs.declared.call.Mark.TheVariants as mark
-use Rattle.qshared.specs.declared.port.Called.{Called}
-use Rattle.qshared.specs.declared.port.Called.TheVariants as called
+use Rattle.qshared.specs.declared.called.Called.{Called}
+use Rattle.qshared.specs.declared.called.Called.TheVariants as called
 use Rattle.qshared.specs.Counting.{OnBusy, is_call, gives, pends}
 use Rattle.qshared.specs.TwoCalls.{is_ok}
 use Rattle.qrules.specs.Trace.{Trace}

@@ -4,10 +4,10 @@ use Rattle.qmodel.specs.declared.call.Call.{Call}
 use Rattle.qmodel.specs.declared.call.Call.TheVariants.{Shutdown}
 use Rattle.qmodel.specs.declared.call.Completion.{Completion}
 use Rattle.qrules.specs.Trace.{Trace}
-use Rattle.qshared.specs.declared.port.Called.{Called}
-use Rattle.qshared.specs.declared.port.Called.TheVariants as called
-use Rattle.qshared.specs.declared.port.CalledPair.{CalledPair}
-use Rattle.qshared.specs.declared.port.CalledPair.TheVariants.{Both, First}
+use Rattle.qshared.specs.declared.called.Called.{Called}
+use Rattle.qshared.specs.declared.called.Called.TheVariants as called
+use Rattle.qshared.specs.declared.called.CalledPair.{CalledPair}
+use Rattle.qshared.specs.declared.called.CalledPair.TheVariants.{Both, First}
 use Rattle.qshared.specs.Counting.{is_call}
 use Rattle.qshared.specs.History.{Extends}
 use Rattle.qshared.specs.TwoCalls.{asked_by}

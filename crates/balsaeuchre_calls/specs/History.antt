@@ -2,10 +2,10 @@
 use Rattle.std.specs.Prelude.{◌≡◌, Bool, true, false, List}
 use Rattle.qmodel.specs.declared.call.Call.{Call}
 use Rattle.qmodel.specs.declared.call.Completion.{Completion}
-use Rattle.qshared.specs.declared.port.Called.{Called}
-use Rattle.qshared.specs.declared.port.Called.TheVariants as called
-use Rattle.qshared.specs.declared.port.CalledPair.{CalledPair}
-use Rattle.qshared.specs.declared.port.CalledPair.TheVariants.{Both, First}
+use Rattle.qshared.specs.declared.called.Called.{Called}
+use Rattle.qshared.specs.declared.called.Called.TheVariants as called
+use Rattle.qshared.specs.declared.called.CalledPair.{CalledPair}
+use Rattle.qshared.specs.declared.called.CalledPair.TheVariants.{Both, First}
 use Rattle.qshared.specs.TwoCalls.{is_accepted, is_ok}
 use Rattle.balsaeuchre_calls.specs.declared.endpoint.LastOutcome.{LastOutcome}
 use Rattle.balsaeuchre_calls.specs.declared.endpoint.LastOutcome.TheVariants.{Done, Blocked, Refused}

@@ -4,8 +4,8 @@ use Rattle.std.specs.Prelude.{◌≡◌, ◌⊎◌, ⊤, Bool, true, false, [], 
 use Rattle.qbase.specs.declared.errno.Errno.TheVariants.{Busy}
 use Rattle.qmodel.specs.declared.call.Call.{Call}
 use Rattle.qmodel.specs.declared.call.Completion.{Completion}
-use Rattle.qshared.specs.declared.port.Called.{Called}
-use Rattle.qshared.specs.declared.port.Called.TheVariants as called
+use Rattle.qshared.specs.declared.called.Called.{Called}
+use Rattle.qshared.specs.declared.called.Called.TheVariants as called
 use Rattle.balsaeuchre_calls.specs.Errors.{refusal}
 use Rattle.balsaeuchre_calls.specs.History.{History}
 use Rattle.balsaeuchre_calls.specs.Results.{Reading, done_in}

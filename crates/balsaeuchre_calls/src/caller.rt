@@ -12,7 +12,7 @@ use crate::error::{CallError, refusal};
 use qbase::bytes::Bytes;
 use qbase::ids::ThreadNo;
 use qmodel::call::{Call, Completion};
-use qshared::port::{Called, CalledPair};
+use qshared::called::{Called, CalledPair};
 use std::alloc::Global;
 use std::sync::Wait;
 

@@ -2,14 +2,14 @@
 
 ghost use Rattle.std.specs.Prelude.{◌≡◌, ◌++◌, [], ◌∷◌, Bool, true, false, IfSome, MatchOption};
 ghost use Rattle.std.specs.Prelude.{List, if◌then◌else◌};
-ghost use Rattle.qshared.specs.Delivered.{taken};
 ghost use Rattle.qshared.specs.History.{Extends};
+ghost use Rattle.qshared.specs.Collected.{collected_by};
 ghost use Rattle.qshared.specs.Counting.{is_call, gives, pends, OnBusy};
 ghost use Rattle.qshared.specs.TwoCalls.{asked_by, gives_both, pends_both, OnBusyInBoth};
 ghost use Rattle.qmodel.specs.declared.call.Call.{Call as Asking};
 ghost use Rattle.qmodel.specs.declared.call.Completion.{Completion as Ending};
-ghost use Rattle.qshared.specs.declared.port.Called.{Called as Reply};
-ghost use Rattle.qshared.specs.declared.port.CalledPair.{CalledPair as Answers};
+ghost use Rattle.qshared.specs.declared.called.Called.{Called as Reply};
+ghost use Rattle.qshared.specs.declared.called.CalledPair.{CalledPair as Answers};
 ghost use Rattle.qrules.specs.Trace.{Trace};
 ghost use Rattle.balsaeuchre_calls.specs.History.{History, IsInTurn, told_by, told_by_both};
 
@@ -18,9 +18,10 @@ use qbase::bytes::Bytes;
 use qbase::errno::Errno;
 use qbase::ids::ThreadNo;
 use qmodel::call::{Call, Completion};
+use qshared::called::{Called, CalledPair};
 use qshared::log::Log;
 use qshared::observed_prefix::ObservedPrefix;
-use qshared::port::{Called, CalledPair, Port};
+use qshared::port::Port;
 use qshared::shared::Shared;
 use qshared::tie::Tie;
 use std::sync::Wait;
@@ -161,6 +162,7 @@ impl<'a, K: Tie, L: Log> KernelPort<'a, K, L> {
     pub(crate) fn learn(&mut self, other: &ObservedPrefix<K>)
         ensures own { Extends self.new.port.seen.trace self.old.port.seen.trace }
         ensures others { Extends self.new.port.seen.trace other.entry.now }
+        ensures taken { collected_by self.new.port ≡ collected_by self.old.port }
         ensures same { (self.new.port.thread ≡ self.old.port.thread)
             × (self.new.port.asked ≡ self.old.port.asked) × (self.new.port.seat ≡ self.old.port.seat)
             × (self.new.port.scratch.pending ≡ self.old.port.scratch.pending)
@@ -191,12 +193,12 @@ pub fn told_by(called: &Called) -> LastOutcome
 impl<'a, K: Tie, L: Log> Endpoint for KernelPort<'a, K, L> {
     ghost use Rattle.qshared.specs.Answered.{Answered, AtPast};
     ghost use Rattle.qshared.specs.Delivered.{IsAwaited};
-    ghost use Rattle.qshared.specs.Due.{collected};
+    ghost use Rattle.qshared.specs.Collected.{collected_by};
     ghost use Rattle.qshared.specs.TwoCalls.{AnsweredBoth};
 
     ghost history = { λ p. record {
       asked = p.port.asked.calls;
-      taken = collected p.port.last.trace p.port.thread (taken p.port.seat);
+      taken = collected_by p.port;
       pending = p.port.scratch.pending;
       told = p.told;
     } };

@@ -15,7 +15,7 @@ use crate::results::{Pulse, Received, Reply};
 use crate::with_bytes;
 use qbase::ids::{ChannelId, ConnectionId, ReceiveId};
 use qmodel::call::{Call, Completion};
-use qshared::port::Called;
+use qshared::called::Called;
 use std::sync::Wait;
 
 impl<'a, E: Endpoint, R: Wait> Caller<'a, E, R> {

@@ -5,9 +5,8 @@ ghost use Rattle.std.specs.Prelude.{◌≡◌, ◌≢◌, ◌≤◌, [], ◌∷�
 ghost use Rattle.qrules.specs.Trace.{followed_by};
 ghost use Rattle.qshared.specs.Asking.{AreCallsOf};
 ghost use Rattle.qhandoff.specs.Words.{thread_of};
-ghost use Rattle.qshared.specs.Delivered.{taken};
 ghost use Rattle.qshared.specs.History.{Extends};
-ghost use Rattle.qshared.specs.Due.{collected};
+ghost use Rattle.qshared.specs.Collected.{collected_by};
 ghost use Rattle.qshared.specs.Naming.{AreAll};
 ghost use Rattle.qshared.specs.Past.{AreSeen};
 ghost use Rattle.balsaeuchre_calls.specs.Closing.{IsDue, IsPast};
@@ -62,6 +61,7 @@ impl<'a, 'p, K: Tie, L: Log, R: Wait> Caller<'a, KernelPort<'p, K, L>, R> {
     pub fn learn(&mut self, other: &ObservedPrefix<K>)
         ensures own { Extends self.new.endpoint.port.seen.trace self.old.endpoint.port.seen.trace }
         ensures others { Extends self.new.endpoint.port.seen.trace other.entry.now }
+        ensures taken { collected_by self.new.endpoint.port ≡ collected_by self.old.endpoint.port }
         ensures same { (self.new.endpoint.port.thread ≡ self.old.endpoint.port.thread)
             × (self.new.endpoint.port.asked ≡ self.old.endpoint.port.asked)
             × (self.new.endpoint.port.seat ≡ self.old.endpoint.port.seat)
@@ -126,9 +126,7 @@ pub fn close<K: Tie>(
     ensures seen { IfOk result
         (λ trace. AreSeen (followed_by [] trace.events) (map (λ p. p.seen.trace) ports.items)) }
     ensures due { IfOk result
-        (λ trace. IsDue K.names.roster
-        (map (λ p. collected p.last.trace p.thread (taken p.seat)) ports.items)
-        (followed_by [] trace.events)) }
+        (λ trace. IsDue K.names.roster (map collected_by ports.items) (followed_by [] trace.events)) }
     ensures error { IfErr result
         (λ e. (e ≡ error.Unexpected) × ¬ (AreAll (λ p. thread_of p.seat) K.names.cells.slots ports.items)) }
 {

@@ -8,7 +8,7 @@ use balsaeuchre_calls::error::CallError;
 use qbase::bytes::Bytes;
 use qbase::ids::ThreadNo;
 use qmodel::call::{Call, Completion};
-use qshared::port::{Called, CalledPair};
+use qshared::called::{Called, CalledPair};
 use std::alloc::Global;
 use std::rt::Clock;
 use std::sync::Wait;

@@ -2,7 +2,7 @@
 use Rattle.qshared.proofs.Common.{◌≡◌, refl, Busy, Option, None, Some, Call, Completion, outcome}
 use Rattle.qbase.specs.declared.errno.Errno.{Errno}
 use Rattle.qshared.specs.Counting.{OnBusy}
-use Rattle.qshared.specs.declared.port.Called.TheVariants.{Refused}
+use Rattle.qshared.specs.declared.called.Called.TheVariants.{Refused}
 
 -- a call that is refused with another error isn't refused as Busy
 pub other_error : (e : Errno) (c : Call) (Why : Type 0) → ¬ (e ≡ Busy) → OnBusy (Refused e c) Why

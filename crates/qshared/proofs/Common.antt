@@ -41,8 +41,8 @@ pub use Rattle.qshared.specs.Performing.{Admits, IsEvent, IsFree, IsReason, IsSe
 pub use Rattle.qshared.specs.Private.Putting.{Handed, MayArrive, MayPut}
 pub use Rattle.qshared.specs.Private.Recorded.{Copied, HasRoomFor, HasRooms, IsKept, MayCopy}
 pub use Rattle.qshared.specs.UnderLock.{Agrees, IsUnderLock, UnderLock}
-pub use Rattle.qshared.specs.declared.port.Called.{Called}
-pub use Rattle.qshared.specs.declared.port.Called.TheVariants.{Blocked, Done, Refused}
+pub use Rattle.qshared.specs.declared.called.Called.{Called}
+pub use Rattle.qshared.specs.declared.called.Called.TheVariants.{Blocked, Done, Refused}
 pub use Rattle.qkernel_state.proofs.Seats.{is_there, seat_kept}
 pub use Rattle.qkernel_state.specs.Contents.{members_of}
 pub use Rattle.qtables.specs.Members.{IsRoster, member_at}

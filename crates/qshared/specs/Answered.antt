@@ -9,8 +9,8 @@ use Rattle.qrules.specs.Trace.{Trace}
 use Rattle.qshared.specs.History.{Extends}
 use Rattle.qshared.specs.Asking.{calls_of}
 use Rattle.qshared.specs.Performing.{Admits, IsEvent, IsOpen, IsOwn, IsRefused, Refuses}
-use Rattle.qshared.specs.declared.port.Called.{Called}
-use Rattle.qshared.specs.declared.port.Called.TheVariants.{Done, Blocked, Refused}
+use Rattle.qshared.specs.declared.called.Called.{Called}
+use Rattle.qshared.specs.declared.called.Called.TheVariants.{Done, Blocked, Refused}
 
 -- a history that a port can meet under the lock: it is valid and has the six properties. It extends the
 -- prefix that the port saw before, and the thread's calls in it are exactly the calls that the port made

@@ -2,8 +2,8 @@
 use Rattle.std.specs.Prelude.{Bool, true, false, List, [], ◌∷◌}
 use Rattle.qbase.specs.declared.errno.Errno.TheVariants.{Busy}
 use Rattle.qmodel.specs.declared.call.Completion.{Completion}
-use Rattle.qshared.specs.declared.port.Called.{Called}
-use Rattle.qshared.specs.declared.port.Called.TheVariants.{Done, Blocked, Refused}
+use Rattle.qshared.specs.declared.called.Called.{Called}
+use Rattle.qshared.specs.declared.called.Called.TheVariants.{Done, Blocked, Refused}
 
 -- true if a call is an event
 abbrev pub is_call : Called → Bool

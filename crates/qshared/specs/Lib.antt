@@ -1,5 +1,6 @@
 pub mod Answered
 pub mod Asking
+pub mod Collected
 pub mod Counting
 pub mod Delivered
 pub mod Due

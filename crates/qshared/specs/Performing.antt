@@ -13,9 +13,9 @@ use Rattle.qrules.specs.Outcome.{Answers}
 use Rattle.qrules.specs.Trace.{Trace}
 use Rattle.qshared.specs.Due.{completions_due, of_thread}
 use Rattle.qshared.specs.Past.{completes, is_down}
-use Rattle.qshared.specs.declared.port.Called.{Called}
+use Rattle.qshared.specs.declared.called.Called.{Called}
 use Rattle.qshared.specs.UnderLock.{UnderLock}
-use Rattle.qshared.specs.declared.port.Called.TheVariants.{Done, Blocked, Refused}
+use Rattle.qshared.specs.declared.called.Called.TheVariants.{Done, Blocked, Refused}
 
 -- the errors with which a log refuses a call: a relation of the history, the call and the error
 abbrev pub Refuses : Type 1

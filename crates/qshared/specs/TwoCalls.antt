@@ -9,11 +9,11 @@ use Rattle.qmodel.specs.Trace.{Trace}
 use Rattle.qshared.specs.Answered.{Answered}
 use Rattle.qshared.specs.Counting.{is_call, gives, pends, OnBusy}
 use Rattle.qshared.specs.Performing.{Admits, Refuses}
-use Rattle.qshared.specs.declared.port.Called.{Called}
-use Rattle.qshared.specs.declared.port.Called.TheVariants.{Done, Blocked}
-use Rattle.qshared.specs.declared.port.Called.TheVariants as called
-use Rattle.qshared.specs.declared.port.CalledPair.{CalledPair}
-use Rattle.qshared.specs.declared.port.CalledPair.TheVariants.{Both, First}
+use Rattle.qshared.specs.declared.called.Called.{Called}
+use Rattle.qshared.specs.declared.called.Called.TheVariants.{Done, Blocked}
+use Rattle.qshared.specs.declared.called.Called.TheVariants as called
+use Rattle.qshared.specs.declared.called.CalledPair.{CalledPair}
+use Rattle.qshared.specs.declared.called.CalledPair.TheVariants.{Both, First}
 
 -- true if a call succeeded, by its result
 abbrev pub is_ok : Mark → Bool

@@ -16,6 +16,7 @@ use crate::call_scratch::CallScratch;
 use crate::cell_steps::{cancel, put};
 use crate::delivery::{Delivery, Origin};
 use crate::history::Prefix;
+use crate::tie::Tie;
 use qbase::ids::ThreadNo;
 use qhandoff::cells::Cells;
 use qhandoff::seats::KernelSeat;
@@ -69,11 +70,11 @@ fn bit_of(place: usize) -> u64
 /// `seen` is the history up to this event. If one of them is for `scratch`'s own thread, it isn't put but
 /// returned, and the thread's cell is closed.
 /// No two completions are for the same thread, so their order doesn't matter: the last is put first.
-pub(crate) fn hand_out(
+pub(crate) fn hand_out<K: Tie>(
     seat: &mut KernelSeat<Delivery>,
     cells: &Cells<Delivery, Origin>,
     kernel: &Kernel,
-    scratch: &mut CallScratch,
+    scratch: &mut CallScratch<K>,
     seen: &Prefix,
 ) -> Option<Completion>
     requires few { (cells_id cells.now).slots ≤ 64 }
@@ -94,6 +95,7 @@ pub(crate) fn hand_out(
     ensures handed { Handed (threads_of (members_of kernel.now.threads)) scratch.old.seat.thread
         scratch.old.completions.value.items (kernel_view seat.old) (kernel_view seat.new) }
     ensures seat { (scratch.new.seat ≡ scratch.old.seat) × (scratch.new.pending ≡ scratch.old.pending) }
+    ensures share { scratch.new.share ≡ scratch.old.share }
     ensures emptied { scratch.new.completions.value.items ≡ [] }
 {
     let own_place = scratch.seat.index();

@@ -5,6 +5,7 @@
 mod admitting;
 pub mod asking;
 mod call_scratch;
+pub mod called;
 mod cell_steps;
 mod close_buffers;
 pub mod delivery;

@@ -13,11 +13,11 @@ ghost use Rattle.qshared.specs.Due.{place};
 
 use crate::asking::{KernelCalls, PortCalls};
 use crate::call_scratch::CallScratch;
+use crate::called::{Called, is_call};
 use crate::close_buffers::CloseBuffers;
 use crate::delivery::{Delivery, Origin};
 use crate::history::Prefix;
 use crate::log::Log;
-use crate::port::{Called, is_call};
 use crate::tie::{Tie, Whole};
 use crate::traced::Traced;
 use qhandoff::cells::Cells;
@@ -87,14 +87,13 @@ impl<K: Tie, L: Log> LockState<K, L> {
         &mut self,
         cells: &Cells<Delivery, Origin>,
         rt: &R,
-        scratch: &mut CallScratch,
-        share: &mut Share<K>,
+        scratch: &mut CallScratch<K>,
         asked: &mut PortCalls,
         seen: &mut Prefix,
         call: Call,
     ) -> Called
         requires cells { (cells_id cells.now ≡ K.names.cells) × IsOrigin K.names (origin_of cells.now) }
-        requires part { 0 < share.old.parts }
+        requires part { 0 < scratch.old.share.parts }
         requires seat { (place (threads_of K.names.roster) scratch.old.seat.thread
             ≡ Some scratch.old.seat.index) × (scratch.old.seat.index < K.names.cells.slots) }
         requires none { scratch.old.completions.value.items ≡ [] }
@@ -111,23 +110,24 @@ impl<K: Tie, L: Log> LockState<K, L> {
             self.old.traced.past seen.new.trace }
         ensures past { self.new.traced.past ≡ seen.new.trace }
         ensures seen { seen.new.name ≡ seen.old.name }
-        ensures parts { share.new.parts ≡ share.old.parts }
-        ensures amount { share.new.amount ≡ share.old.amount + (if is_call result then 1 else 0) }
+        ensures parts { scratch.new.share.parts ≡ scratch.old.share.parts }
+        ensures amount { scratch.new.share.amount
+            ≡ scratch.old.share.amount + (if is_call result then 1 else 0) }
         ensures name { asked.new.name ≡ asked.old.name }
         ensures asked { asked.new.calls ≡ asked.old.calls ++ (if is_call result then call ∷ [] else []) }
-        ensures few { share.old.amount < 2 ^ 63 }
+        ensures few { scratch.old.share.amount < 2 ^ 63 }
         ensures seat { (scratch.new.seat ≡ scratch.old.seat) × (scratch.new.pending ≡ scratch.old.pending) }
         ensures none { scratch.new.completions.value.items ≡ [] }
     {
         let cell = scratch.seat.index();
         let _events = self.traced.len();
-        self.book.audit(share);
+        self.book.audit(&mut scratch.share);
         agree(asked, &mut self.heard, cell);
         let asking = Snapshot::of(&call);
         let called = self.traced.perform(cells, rt, scratch, seen, call);
         if is_call(&called) {
             asked.ask(&mut self.heard[cell], &asking);
-            self.book.add(share, 1);
+            self.book.add(&mut scratch.share, 1);
         }
         called
     }

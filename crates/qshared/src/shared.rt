@@ -11,9 +11,10 @@ ghost use Rattle.qrules.specs.Trace.{followed_by};
 ghost use Rattle.qrules.specs.Properties.{HasProperties};
 ghost use Rattle.qkernel_state.specs.Contents.{members_of};
 ghost use Rattle.qhandoff.specs.Words.{cells_id, thread_of, took, IsRow};
-ghost use Rattle.qshared.specs.Delivered.{origin_of, taken, IsOrigin};
+ghost use Rattle.qshared.specs.Delivered.{origin_of, IsOrigin};
 ghost use Rattle.qshared.specs.Asking.{AreCallsOf, asked_in};
-ghost use Rattle.qshared.specs.Due.{AreDue, AreKnown, collected};
+ghost use Rattle.qshared.specs.Collected.{collected_by};
+ghost use Rattle.qshared.specs.Due.{AreDue, AreKnown};
 ghost use Rattle.qshared.specs.Naming.{AreParts, AreAll};
 ghost use Rattle.qshared.specs.Past.{AreSeen, RiseByThread};
 ghost use Rattle.qshared.specs.Unrecorded.{HasPast};
@@ -106,7 +107,7 @@ fn ports_for<K: Tie>(
     ensures spare { OnOk result ((spare.new.parts ≡ 0) × (spare.new.amount ≡ 0)) }
     ensures ports { IfOk result (λ r. AreAll (λ p. thread_of p.seat) K.names.cells.slots r.0.items) }
     ensures new { IfOk result (λ r. (k : ℕ) (p : _) → get_elem? r.0.items k ≡ some p → (p.calls ≡ 0)
-        × (p.scratch.pending ≡ false) × (collected p.last.trace p.thread (taken p.seat) ≡ [])
+        × (p.scratch.pending ≡ false) × (collected_by p ≡ [])
         × (p.asked.calls ≡ []) × (p.seen.trace ≡ [])) }
 {
     let alloc = kernel.alloc();
@@ -123,15 +124,8 @@ fn ports_for<K: Tie>(
         let Some(place) = kernel.seat(thread) else {
             unreachable!()
         };
-        let scratch = CallScratch::new(alloc, place)?;
-        let port = Port::new(
-            scratch,
-            seat,
-            spare.split_off(1, 0),
-            parker,
-            own,
-            seen.again(),
-        );
+        let scratch = CallScratch::new(alloc, place, spare.split_off(1, 0))?;
+        let port = Port::new(scratch, seat, parker, own, seen.again());
         ports.push_reserved(port);
     }
     Ok((ports, wakers))
@@ -161,7 +155,7 @@ fn gather<K: Tie>(
     for port in ports {
         let Port {
             seat,
-            share,
+            scratch,
             calls: made,
             asked: own,
             mut seen,
@@ -170,6 +164,7 @@ fn gather<K: Tie>(
         seats.push_reserved(seat);
         calls.push_reserved(made);
         asked.push_reserved(own);
+        let CallScratch { share, .. } = scratch;
         spare.merge(share);
         history.look(&mut seen);
     }
@@ -196,7 +191,7 @@ impl<K: Tie, L: Log> Shared<K, L> {
         requires log { (L.roster log ≡ K.names.roster) × (L.past log ≡ []) }
         ensures ports { IfOk result (λ r. AreAll (λ p. thread_of p.seat) K.names.cells.slots r.1.items) }
         ensures new { IfOk result (λ r. (k : ℕ) (p : _) → get_elem? r.1.items k ≡ some p → (p.calls ≡ 0)
-            × (p.scratch.pending ≡ false) × (collected p.last.trace p.thread (taken p.seat) ≡ [])
+            × (p.scratch.pending ≡ false) × (collected_by p ≡ [])
             × (p.asked.calls ≡ []) × (p.seen.trace ≡ [])) }
     {
         let Parts {
@@ -291,8 +286,7 @@ impl<K: Tie, L: Log> Shared<K, L> {
             × HasProperties K.names.roster (L.past result.log) }
         ensures rises { RiseByThread result.left.items }
         ensures known { AreKnown K.names.roster result.left.items }
-        ensures due { AreDue K.names.roster
-            (map (λ p. collected p.last.trace p.thread (taken p.seat)) ports.items) result.left.items
+        ensures due { AreDue K.names.roster (map collected_by ports.items) result.left.items
             (L.past result.log) }
     {
         let Shared { cells, lock, .. } = self;
@@ -344,7 +338,7 @@ impl<K: Tie> Shared<K, RecordedHistory<K>> {
         requires named { AreParts K.names K.name K.parts parts }
         ensures ports { IfOk result (λ r. AreAll (λ p. thread_of p.seat) K.names.cells.slots r.1.items) }
         ensures new { IfOk result (λ r. (k : ℕ) (p : _) → get_elem? r.1.items k ≡ some p → (p.calls ≡ 0)
-            × (p.scratch.pending ≡ false) × (collected p.last.trace p.thread (taken p.seat) ≡ [])
+            × (p.scratch.pending ≡ false) × (collected_by p ≡ [])
             × (p.asked.calls ≡ []) × (p.seen.trace ≡ [])) }
         ensures error { IfErr result (λ e. e ≡ Errno.NoMemory) }
     {
@@ -373,8 +367,7 @@ impl<K: Tie> Shared<K, RecordedHistory<K>> {
             × HasProperties K.names.roster (followed_by [] result.trace.events) }
         ensures rises { RiseByThread result.left.items }
         ensures known { AreKnown K.names.roster result.left.items }
-        ensures due { AreDue K.names.roster
-            (map (λ p. collected p.last.trace p.thread (taken p.seat)) ports.items) result.left.items
+        ensures due { AreDue K.names.roster (map collected_by ports.items) result.left.items
             (followed_by [] result.trace.events) }
     {
         let Closed { log, calls, left } = self.close(ports);
@@ -395,7 +388,7 @@ impl<K: Tie> Shared<K, GhostHistory<K>> {
         requires named { AreParts K.names K.name K.parts parts }
         ensures ports { IfOk result (λ r. AreAll (λ p. thread_of p.seat) K.names.cells.slots r.1.items) }
         ensures new { IfOk result (λ r. (k : ℕ) (p : _) → get_elem? r.1.items k ≡ some p → (p.calls ≡ 0)
-            × (p.scratch.pending ≡ false) × (collected p.last.trace p.thread (taken p.seat) ≡ [])
+            × (p.scratch.pending ≡ false) × (collected_by p ≡ [])
             × (p.asked.calls ≡ []) × (p.seen.trace ≡ [])) }
         ensures error { IfErr result (λ e. e ≡ Errno.NoMemory) }
     {
@@ -412,8 +405,7 @@ impl<K: Tie> Shared<K, GhostHistory<K>> {
         ensures calls { result.calls.items ≡ map (λ p. p.calls) ports.items }
         ensures rises { RiseByThread result.left.items }
         ensures known { AreKnown K.names.roster result.left.items }
-        ensures past { HasPast K.names.roster
-            (map (λ p. collected p.last.trace p.thread (taken p.seat)) ports.items)
+        ensures past { HasPast K.names.roster (map collected_by ports.items)
             (map (λ p. p.asked.calls) ports.items) (map (λ p. p.seen.trace) ports.items) result.calls.items
             result.left.items }
     {

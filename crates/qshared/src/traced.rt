@@ -17,12 +17,12 @@ ghost use Rattle.qshared.specs.Due.{place};
 ghost use Rattle.qshared.specs.Performing.{Performs, outcome};
 
 use crate::call_scratch::CallScratch;
+use crate::called::Called;
 use crate::cell_steps::{cancel, open};
 use crate::delivery::{Delivery, Origin};
 use crate::handing::hand_out;
 use crate::history::{History, Prefix};
 use crate::log::Log;
-use crate::port::Called;
 use crate::tie::Tie;
 use qbase::errno::Errno;
 use qhandoff::cells::Cells;
@@ -152,7 +152,7 @@ impl<K: Tie, L: Log> Traced<K, L> {
         &mut self,
         cells: &Cells<Delivery, Origin>,
         rt: &R,
-        scratch: &mut CallScratch,
+        scratch: &mut CallScratch<K>,
         seen: &mut Prefix,
         call: Call,
     ) -> Called
@@ -170,6 +170,7 @@ impl<K: Tie, L: Log> Traced<K, L> {
         ensures performs { Performs K.names.roster L.refuses L.admits self.old scratch.old.seat.thread call
             result self.new }
         ensures seat { (scratch.new.seat ≡ scratch.old.seat) × (scratch.new.pending ≡ scratch.old.pending) }
+        ensures share { scratch.new.share ≡ scratch.old.share }
         ensures none { scratch.new.completions.value.items ≡ [] }
         ensures name { seen.new.name ≡ seen.old.name }
         ensures extends { Extends self.old.past seen.old.trace }

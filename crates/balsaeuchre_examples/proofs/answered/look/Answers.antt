@@ -1,7 +1,5 @@
 use Rattle.balsaeuchre_examples.proofs.Common.{ap, sym}
 use Rattle.balsaeuchre.proofs.SeenCompletions.{awaited_as, gives_as}
-use Rattle.balsaeuchre.specs.Delivered.{taken}
-use Rattle.balsaeuchre.specs.Due.{collected}
 use Rattle.balsaeuchre_examples.proofs.Told.{met_after}
 use Rattle.balsaeuchre_examples.proofs.answered.look.Goals as goal
 
@@ -15,6 +13,6 @@ returns g c =
           (met_after c.args.note.now.seen c.completions_in_real_time.ensures l.own l.others
           came.2),
       came.3,
-      gives_as came.0 _ _ _ _ _ (λ i. collected (l.same.4 i).trace (l.same.0 i) (taken (l.same.2 i)))
+      gives_as came.0 _ _ _ _ _ l.taken
           (awaited_as _ l.same.0 (ap (λ a. a.calls) l.same.1)) came.4,
     )

@@ -7,7 +7,7 @@ use Rattle.qshared.proofs.Puts.{Handing, handing_start, handing_next, handing_ar
 use Rattle.qshared.proofs.handing.hand_out.Goals as goal
 
 pub cancel-requires-clause-opened : goal.cancel-requires-clause-opened
-cancel-requires-clause-opened c =
+cancel-requires-clause-opened g c =
     let ts = threads_of (members_of c.args.kernel.now.threads) in
     let handing = rw c.in-Some.ensures.items at c.loop-completion.invariant.handing in
     let may = handing_next _ _ _ _ _ _ _ _ handing c.requires.apart c.requires.may in
@@ -18,7 +18,7 @@ cancel-requires-clause-opened c =
     ap (λ k. (line (kernel_view c.loop-completion.seat) k).opened) (sym same) ∙ may.2
 
 pub loop-completion-preserved-then-eq : goal.loop-completion-preserved-then-eq
-loop-completion-preserved-then-eq c =
+loop-completion-preserved-then-eq g c =
     let handing = rw c.in-Some.ensures.items at c.loop-completion.invariant.handing in
     let caller : eqb c.in-Some.completion.thread c.thread-thread.result ≡ true = search rules in
     let below = place_below (threads_of (members_of c.args.kernel.now.threads)) _ _ c.requires.place in
@@ -41,12 +41,12 @@ loop-completion-preserved-then-eq c =
     }
 
 pub hand_one-place-requires-clause-may : goal.hand_one-place-requires-clause-may
-hand_one-place-requires-clause-may c =
+hand_one-place-requires-clause-may g c =
     let handing = rw c.in-Some.ensures.items at c.loop-completion.invariant.handing in
     handing_next _ _ _ _ _ _ _ _ handing c.requires.apart c.requires.may
 
 pub hand_one-place-requires-clause-delivered : goal.hand_one-place-requires-clause-delivered
-hand_one-place-requires-clause-delivered c =
+hand_one-place-requires-clause-delivered g c =
     let handing = rw c.in-Some.ensures.items at c.loop-completion.invariant.handing in
     let ts = threads_of (members_of c.args.kernel.now.threads) in
     let roster = (origin_of c.args.cells.now).roster.value in
@@ -58,7 +58,7 @@ hand_one-place-requires-clause-delivered c =
     handing_arrives _ _ _ _ _ _ _ _ handing roster made c.requires.apart all foreign
 
 pub loop-completion-preserved : goal.loop-completion-preserved
-loop-completion-preserved c =
+loop-completion-preserved g c =
     let handing = rw c.in-Some.ensures.items at c.loop-completion.invariant.handing in
     let foreign : eqb c.in-Some.completion.thread c.thread-thread.result ≡ false = search rules in
     let near : c.hand_one-place.result < length (kernel_view c.loop-completion.seat).lines =
@@ -77,7 +77,7 @@ loop-completion-preserved c =
     }
 
 pub loop-completion-init : goal.loop-completion-init
-loop-completion-init c =
+loop-completion-init g c =
     let ts = threads_of (members_of c.args.kernel.now.threads) in
     let X = c.args.scratch.now.completions.value.items in
     let d = kernel_view c.args.seat.now in

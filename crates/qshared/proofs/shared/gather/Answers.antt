@@ -27,7 +27,7 @@ loop-port-preserved g c =
       seen = seen_more (λ q. q.seen.trace) c.args.history.now.trace c.loop-port.yielded p v.seen
           (subst (λ h. Extends h.trace p.seen.trace) v.history c.look.ensures.extends);
       parts = omega (arith, c.merge.ensures.parts, p.part, v.parts, long);
-      amount = c.merge.ensures.amount ∙ ap (λ n. n + p.share.amount) v.amount
+      amount = c.merge.ensures.amount ∙ ap (λ n. n + p.scratch.share.amount) v.amount
           ∙ ap (λ n. sum c.loop-port.calls.items + n) p.counted
           ∙ sym (ap sum m ∙ sum_more c.loop-port.calls.items p.calls);
       room = (

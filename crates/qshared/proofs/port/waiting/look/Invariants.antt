@@ -1,5 +1,5 @@
 use Rattle.qshared.proofs.Common.{◌≡◌, thread_id, thread_of, taken}
-use Rattle.qshared.proofs.port.look.Given as goal
+use Rattle.qshared.proofs.port.waiting.look.Given as goal
 
 -- nothing was taken yet
 abbrev pub invariant-loop : goal.invariant-loop

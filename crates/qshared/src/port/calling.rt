@@ -1,0 +1,194 @@
+//! The calls that a port makes.
+
+ghost use Rattle.std.specs.Prelude.{◌≡◌, ◌+◌, ◌++◌, [], ◌∷◌, true, IfSome};
+ghost use Rattle.std.specs.Prelude.{if◌then◌else◌};
+ghost use Rattle.qhandoff.specs.Words.{cells_id, thread_of};
+ghost use Rattle.qshared.specs.Delivered.{origin_of, taken, IsOrigin};
+ghost use Rattle.qshared.specs.History.{Extends};
+ghost use Rattle.qshared.specs.Collected.{collected_by};
+ghost use Rattle.qshared.specs.Answered.{AtPast, IsMet, Answered};
+ghost use Rattle.qshared.specs.Counting.{is_call, gives, pends, OnBusy};
+ghost use Rattle.qshared.specs.TwoCalls.{AnsweredBoth, calls_in, asked_by, gives_both, pends_both};
+ghost use Rattle.qshared.specs.TwoCalls.{OnBusyInBoth};
+
+use crate::called::{Called, CalledPair, events, is_ok, pends};
+use crate::delivery::{Delivery, Origin};
+use crate::lock_state::LockState;
+use crate::log::Log;
+use crate::observed_prefix::ObservedPrefix;
+use crate::port::Port;
+use crate::shared::Shared;
+use crate::spinning;
+use crate::tie::Tie;
+use qbase::bytes::Bytes;
+use qhandoff::cells::Cells;
+use qmodel::call::Call;
+use std::sync::Wait;
+
+/// Returns the bytes of a Reply or a Write, or `None` for another call.
+fn bytes_of(call: Call) -> Option<Bytes> {
+    match call {
+        Call::Reply { bytes, .. } => Some(bytes),
+        Call::Write { bytes, .. } => Some(bytes),
+        _ => None,
+    }
+}
+
+impl<K: Tie> Port<K> {
+    /// Makes a call under the lock, and may wait for the lock. If the call completes in its own event, the
+    /// port takes the completion.
+    ///
+    /// The call is refused with `Down` after a Shutdown. Otherwise it is refused with `Busy` if the
+    /// completion of a blocked call isn't collected yet, and only then. Otherwise the log may refuse it,
+    /// unless it is a Shutdown.
+    ///
+    /// A log that keeps the history refuses with `TraceFull` if one event of the limit is left, and with
+    /// `NoMemory` if there was no memory for the trace. A log that keeps none refuses with `Exhausted` if one
+    /// of 2^40 events is left.
+    /// `endpoint.rt` of `crates/balsaeuchre_calls` calls it.
+    pub fn call<L: Log, R: Wait>(&mut self, shared: &Shared<K, L>, rt: &R, call: Call) -> Called
+        ensures came { AtPast K.names.roster self.old.thread self.old.asked.calls self.old.seen.trace
+            (λ past. Answered K.names.roster L.refuses L.admits self.old.thread call result past
+            self.new.seen.trace) }
+        ensures calls { self.new.calls ≡ self.old.calls + (if is_call result then 1 else 0) }
+        ensures asked { self.new.asked.calls ≡ self.old.asked.calls
+            ++ (if is_call result then call ∷ [] else []) }
+        ensures pending { self.new.scratch.pending ≡ pends result self.old.scratch.pending }
+        ensures busy { OnBusy result (self.old.scratch.pending ≡ true) }
+        ensures taken { collected_by self.new ≡ collected_by self.old ++ gives result }
+        ensures last { self.new.last.trace ≡ self.new.seen.trace }
+        ensures same { (self.new.thread ≡ self.old.thread)
+            × (thread_of self.new.seat ≡ thread_of self.old.seat) }
+    {
+        self.scratch.woken = 0;
+        self.scratch.lent = None;
+        self.scratch.copies = L::copies(self.scratch.alloc, &call);
+        let called = {
+            let mut guard = spinning::lock(&*shared.lock, shared.looks, rt);
+            self.make(&shared.cells, rt, &mut **guard, call)
+        };
+        shared.wake(self.scratch.woken);
+        self.scratch.copies = None;
+        called
+    }
+
+    /// Makes two calls without freeing the lock between them, so that no other thread's call comes between.
+    /// The second is made only if the first completes in its own event with `Ok`, as a Reply, an Error or a
+    /// Pulse does. Each is refused as by `call`.
+    /// `endpoint.rt` of `crates/balsaeuchre_calls` makes a reply and the next receive with it.
+    pub fn call_both<L: Log, R: Wait>(
+        &mut self,
+        shared: &Shared<K, L>,
+        rt: &R,
+        first: Call,
+        second: Call,
+    ) -> CalledPair
+        ensures came { AtPast K.names.roster self.old.thread self.old.asked.calls self.old.seen.trace
+            (λ past. AnsweredBoth K.names.roster L.refuses L.admits self.old.thread first second result past
+            self.new.seen.trace) }
+        ensures calls { self.new.calls ≡ self.old.calls + calls_in result }
+        ensures asked { self.new.asked.calls ≡ self.old.asked.calls ++ asked_by first second result }
+        ensures pending { self.new.scratch.pending ≡ pends_both result self.old.scratch.pending }
+        ensures busy { OnBusyInBoth result (self.old.scratch.pending ≡ true) }
+        ensures taken { collected_by self.new ≡ collected_by self.old ++ gives_both result }
+        ensures last { self.new.last.trace ≡ self.new.seen.trace }
+        ensures same { (self.new.thread ≡ self.old.thread)
+            × (thread_of self.new.seat ≡ thread_of self.old.seat) }
+    {
+        self.scratch.woken = 0;
+        self.scratch.lent = None;
+        self.scratch.copies = L::copies(self.scratch.alloc, &first);
+        let mut copies = L::copies(self.scratch.alloc, &second);
+        let called = {
+            let mut guard = spinning::lock(&*shared.lock, shared.looks, rt);
+            let locked = &mut **guard;
+            let first = self.make(&shared.cells, rt, locked, first);
+            match first {
+                Called::Done(completion) => {
+                    if is_ok(completion.mark) {
+                        self.scratch.copies = copies.take();
+                        let second = self.make(&shared.cells, rt, locked, second);
+                        CalledPair::Both(completion, second)
+                    } else {
+                        CalledPair::First(Called::Done(completion), second)
+                    }
+                }
+                Called::Blocked => CalledPair::First(Called::Blocked, second),
+                Called::Refused(errno, call) => {
+                    let first = Called::Refused(errno, call);
+                    CalledPair::First(first, second)
+                }
+            }
+        };
+        shared.wake(self.scratch.woken);
+        self.scratch.copies = None;
+        called
+    }
+
+    /// Makes a call of the thread under the lock, which the caller holds.
+    fn make<L: Log, R: Wait>(
+        &mut self,
+        cells: &Cells<Delivery, Origin>,
+        rt: &R,
+        locked: &mut LockState<K, L>,
+        call: Call,
+    ) -> Called
+        requires cells { (cells_id cells.now ≡ K.names.cells) × IsOrigin K.names (origin_of cells.now) }
+        requires copies { IfSome self.old.scratch.copies (λ c. c ≡ call) }
+        ensures met { IsMet K.names.roster self.old.thread self.old.asked.calls self.old.seen.trace
+            locked.old.traced.past }
+        ensures came { Answered K.names.roster L.refuses L.admits self.old.thread call result
+            locked.old.traced.past self.new.seen.trace }
+        ensures past { locked.new.traced.past ≡ self.new.seen.trace }
+        ensures calls { self.new.calls ≡ self.old.calls + (if is_call result then 1 else 0) }
+        ensures asked { self.new.asked.calls ≡ self.old.asked.calls
+            ++ (if is_call result then call ∷ [] else []) }
+        ensures pending { self.new.scratch.pending ≡ pends result self.old.scratch.pending }
+        ensures busy { OnBusy result (self.old.scratch.pending ≡ true) }
+        ensures taken { collected_by self.new ≡ collected_by self.old ++ gives result }
+        ensures last { self.new.last.trace ≡ self.new.seen.trace }
+        ensures same { (self.new.thread ≡ self.old.thread)
+            × (thread_of self.new.seat ≡ thread_of self.old.seat) }
+    {
+        let called = locked.call(
+            cells,
+            rt,
+            &mut self.scratch,
+            &mut self.asked,
+            &mut self.seen,
+            call,
+        );
+        self.last = self.seen.again();
+        self.calls += events(&called);
+        self.scratch.pending = pends(&called, self.scratch.pending);
+        called
+    }
+
+    /// Returns the bytes of the last call, if it was a Reply or a Write that wasn't refused. Their memory can
+    /// serve for the bytes of the next call. Returns `None` if they were returned before.
+    /// `endpoint.rt` of `crates/balsaeuchre_calls` keeps them for its replies.
+    pub fn spare(&mut self) -> Option<Bytes>
+        ensures last { self.new.last ≡ self.old.last }
+        ensures taken { collected_by self.new ≡ collected_by self.old }
+        ensures pending { self.new.scratch.pending ≡ self.old.scratch.pending }
+        ensures same { (self.new.thread ≡ self.old.thread)
+            × (thread_of self.new.seat ≡ thread_of self.old.seat) × (self.new.calls ≡ self.old.calls)
+            × (self.new.asked ≡ self.old.asked) × (self.new.seen ≡ self.old.seen) }
+    {
+        let lent = self.scratch.lent.take()?;
+        bytes_of(lent)
+    }
+
+    /// Learns a prefix of the history that another port of the kernel has seen. The next call is then known
+    /// to come after its events.
+    pub fn learn(&mut self, other: &ObservedPrefix<K>)
+        ensures own { Extends self.new.seen.trace self.old.seen.trace }
+        ensures others { Extends self.new.seen.trace other.entry.now }
+        ensures taken { collected_by self.new ≡ collected_by self.old }
+        ensures same { (self.new.thread ≡ self.old.thread) × (self.new.seat ≡ self.old.seat)
+            × (self.new.calls ≡ self.old.calls) × (self.new.scratch.pending ≡ self.old.scratch.pending)
+            × (self.new.asked ≡ self.old.asked) × (self.new.last ≡ self.old.last) }
+    {
+        self.seen.learn(&other.beginning);
+    }
+}
