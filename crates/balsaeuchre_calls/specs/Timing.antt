@@ -9,7 +9,8 @@ use Rattle.balsaeuchre_calls.specs.declared.error.CallError.{CallError}
 use Rattle.balsaeuchre_calls.specs.declared.error.CallError.TheVariants.{Cancelled, NoClock, TimedOut}
 
 -- the result that is returned once the caller's alarm is cleared. It is the call's own, or it may be
--- `TimedOut` if the call was cancelled with `Intr`
+-- `TimedOut` if the call was cancelled with `Intr`. This doesn't say that the time was over: no contract
+-- knows what the clock read, and any thread's `unblock` cancels with `Intr`, too
 abbrev pub IsTimed : {A : Type 0} → Result A CallError → Result A CallError → Type 0
 IsTimed called result = (result ≡ called) ⊎ ((called ≡ Err (Cancelled Intr)) × (result ≡ Err TimedOut))
 

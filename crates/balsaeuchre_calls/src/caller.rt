@@ -1,6 +1,7 @@
 //! A caller: a thread that makes calls, and waits for their completions.
 
-ghost use Rattle.std.specs.Prelude.{◌≡◌, ⊤, false, true, MatchResult};
+ghost use Rattle.std.specs.Prelude.{◌≡◌, false, true, MatchResult};
+ghost use Rattle.std.specs.Fn.{FnOnceReturnsAtMut};
 ghost use Rattle.qshared.specs.Counting.{pends};
 ghost use Rattle.balsaeuchre_calls.specs.Coming.{ComesOf, ComesOfBoth, ShutsDown, WaitsFor};
 ghost use Rattle.balsaeuchre_calls.specs.Making.{Leads, Makes, MakesBoth, completed_in};
@@ -62,15 +63,18 @@ impl<'a, E: Endpoint, R: Wait> Caller<'a, E, R> {
     }
 
     /// Runs a thread's work, and returns its result. If the work fails, the kernel is shut down, so that no
-    /// other thread stays blocked.
+    /// other thread stays blocked. If it succeeds, nothing else is done.
     pub fn run<T, X, F: FnOnce(&mut Caller<'a, E, R>) -> Result<T, X>>(
         &mut self,
         work: F,
     ) -> Result<T, X>
         requires { F.IsAlwaysCallable work }
-        ensures { MatchResult result (λ _. ⊤)
-            (λ _. (e : _) × ShutsDown (λ e. E.history e) E.came E.awaited e (E.history self.new.endpoint)
-            (E.seen self.new.endpoint)) }
+        ensures { (worked : _) × FnOnceReturnsAtMut F.FnOnce work self.old result worked
+            × MatchResult result
+            (λ _. (E.history self.new.endpoint ≡ E.history worked.endpoint)
+            × (E.seen self.new.endpoint ≡ E.seen worked.endpoint))
+            (λ _. ShutsDown (λ e. E.history e) E.came E.awaited worked.endpoint
+            (E.history self.new.endpoint) (E.seen self.new.endpoint)) }
     {
         let done = work(self);
         self.or_shutdown(done)
