@@ -65,20 +65,24 @@ pub fn run_named<R: Files + Input + Print + Eprint + AllocGlobal>(
     let text = text_of(rt, file)?;
     let shows = run.explain || run.screen.errors;
     let source = FaultSource::new(file, text.as_slice(), shows, run.screen.colours.errors);
-    let mut named = match read(rt.alloc(), source.text) {
-        Ok(NamedReading::Good(named)) => named,
-        Ok(NamedReading::Faulty(faults)) => return Err(end_named(
-            rt,
-            run,
-            source,
-            faults.as_slice(),
-        )),
-        Err(_) => return Err(end_failed(rt, "out of memory")),
-    };
+    match read(rt.alloc(), source.text) {
+        Ok(NamedReading::Good(mut named)) => run_read(rt, run, source, &mut named),
+        Ok(NamedReading::Faulty(faults)) => Err(end_named(rt, run, source, faults.as_slice())),
+        Err(_) => Err(end_failed(rt, "out of memory")),
+    }
+}
+
+/// Runs a script with names that was read, or prints its plain script.
+fn run_read<R: Print + Eprint + AllocGlobal>(
+    rt: &R,
+    run: &ScriptRun,
+    source: FaultSource<'_>,
+    named: &mut NamedScript,
+) -> ExitResult {
     if run.plain {
         return print_text(rt, named.text.as_str()).map(|()| ExitCode::SUCCESS);
     }
-    match outcome_of(rt.alloc(), &mut named, RunForm::of(run)) {
+    match outcome_of(rt.alloc(), named, RunForm::of(run)) {
         Ok(outcome) => print_outcome(rt, run, source, &outcome),
         Err(_) => Err(end_failed(rt, "out of memory")),
     }
