@@ -1,6 +1,6 @@
-// Reports the blocks of memory that a program takes, for bench/lines.py. It is loaded before the C library,
-// and passes each request to it. It writes a line for each request to descriptor 9, at once or, with
-// BLOCKS_KEPT, at the program's end. Then no other thread runs in between because of a write.
+// Reports the blocks of memory that a program takes, for bench/lines.py and scripts that use it. It is loaded
+// before the C library, and passes each request to it. It writes a line for each request to descriptor 9, at
+// once or, with BLOCKS_KEPT, at the program's end. Then no other thread runs in between because of a write.
 #define _GNU_SOURCE
 #include <link.h>
 #include <stddef.h>

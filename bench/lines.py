@@ -126,19 +126,22 @@ class Blocks:
         return None
 
 
-def traced(program, room, order, shift):
-    """The trace of the program's loads and stores, as lines of text, and its blocks."""
-    library, trace, told = room / "blocks.so", room / "trace", room / "told"
-    subprocess.run(["cc", "-O2", "-shared", "-fPIC", "-o", library, TOP / "blocks.c"], check=True)
-    stripped = room / "program"
-    subprocess.run(["strip", "--strip-debug", "-o", stripped, program], check=True)
-    words = ["valgrind", "--tool=lackey", "--trace-mem=yes", "--basic-counts=no", f"--log-file={trace}", stripped]
-    environment = {"LD_PRELOAD": str(library), "PATH": os.environ["PATH"], "BLOCKS_SHIFT": str(shift)}
+def traced(words, room, names=("blocks",), **environment):
+    """The trace of a program that is started with these words, as a file, and its blocks. The libraries with these
+    names are loaded before the C library."""
+    trace, told, stripped = room / "trace", room / "told", room / "program"
+    libraries = [room / f"{name}.so" for name in names]
+    for library in libraries:
+        subprocess.run(["cc", "-O2", "-shared", "-fPIC", "-o", library, TOP / f"{library.stem}.c"], check=True)
+    subprocess.run(["strip", "--strip-debug", "-o", stripped, words[0]], check=True)
+    valgrind = ["valgrind", "--tool=lackey", "--trace-mem=yes", "--basic-counts=no", f"--log-file={trace}"]
+    valgrind += ["--vex-guest-chase=no"] # else it reports instructions that it only tries, too
+    words = [*valgrind, stripped, *words[1:]]
+    environment |= {"LD_PRELOAD": " ".join(map(str, libraries)), "PATH": os.environ["PATH"]}
     with open(told, "w") as file:
         os.dup2(file.fileno(), 9)
-    words += ["alone", str(ROUNDS), *order, "unkept"]
     subprocess.run(words, env=environment, stdout=subprocess.DEVNULL, check=True, pass_fds=[9])
-    return trace.read_text().splitlines(), Blocks(told.read_text().rpartition("begin\n")[2])
+    return trace, Blocks(told.read_text().rpartition("begin\n")[2])
 
 
 class Turn:
@@ -282,8 +285,10 @@ def show(calls, turns, moves):
 
 def measured(program, calls, order, shift):
     """The turns of the last round trip, and the lines that moved in them."""
+    words = [program.file, "alone", str(ROUNDS), *order, "unkept"]
     with tempfile.TemporaryDirectory() as room:
-        trace, blocks = traced(program.file, pathlib.Path(room), order, shift)
+        file, blocks = traced(words, pathlib.Path(room), BLOCKS_SHIFT=str(shift))
+        trace = file.read_text().splitlines()
     reader = Reader(program, blocks)
     reader.read(trace, lock_word(trace, program, blocks.base))
     # A channel is created and a connection attached first, and the kernel shut down last.
