@@ -1,6 +1,6 @@
 -- The outcome of a call that was made under the lock.
 use Rattle.std.specs.Prelude.{◌≡◌, ◌⊎◌, ℕ, ◌+◌, true, false, is_some, List, [], ◌∷◌, length, Option, None}
-use Rattle.std.specs.Prelude.{Some}
+use Rattle.std.specs.Prelude.{Some, ⊤, Bool, Result, Ok, Err}
 use Rattle.qbase.specs.declared.errno.Errno.{Errno}
 use Rattle.qbase.specs.declared.errno.Errno.TheVariants.{NoThread, Down, Busy}
 use Rattle.qtables.specs.Members.{member_at}
@@ -71,6 +71,19 @@ pub record IsOpen (t i : ℕ) (completions : List Completion) : Type 0 where
 abbrev pub outcome : Option Completion → Called
 outcome (Some x) = Done x
 outcome None = Blocked
+
+-- the outcome of a call that was refused with an error or is an event, given its own completion, if there is
+-- one
+abbrev pub called_by : Result ⊤ Errno → Option Completion → Call → Called
+called_by (Ok made) own c = outcome own
+called_by (Err e) own c = Refused e c
+
+-- true if, after a call with this result and this own completion, the completion of a blocked call isn't
+-- collected yet; before says whether this was true before the call
+abbrev pub pends_with : Result ⊤ Errno → Option Completion → Bool → Bool
+pends_with (Ok made) None before = true
+pends_with (Ok made) (Some x) before = before
+pends_with (Err e) own before = before
 
 -- a refused call is returned and changes nothing. Any other call is an event, which the history then has. The
 -- outcome is Done exactly if one of its completions belongs to the call itself.

@@ -1,11 +1,13 @@
 //! The outcomes of calls that ports make.
 
-ghost use Rattle.std.specs.Prelude.{◌≡◌, ◌≤◌, if◌then◌else◌};
-ghost use Rattle.qshared.specs.Counting.{is_call, pends};
+ghost use Rattle.std.specs.Prelude.{◌≡◌, ◌≤◌, if◌then◌else◌, is_ok as is_made};
 ghost use Rattle.qshared.specs.TwoCalls.{is_ok};
+ghost use Rattle.qshared.specs.Performing.{called_by, pends_with};
+ghost use Rattle.qshared.specs.declared.called.Called.TheVariants.{Refused};
 
 use qbase::errno::Errno;
 use qmodel::call::{Call, Completion, Mark};
+use std::mem;
 
 /// The outcome of a call that a port was asked to make. The calls of `crates/balsaeuchre_calls` read their
 /// results from it.
@@ -30,30 +32,61 @@ pub enum CalledPair {
     First(Called, Call),
 }
 
-/// Returns whether a call is an event.
-pub(crate) fn is_call(called: &Called) -> bool
-    ensures { result ≡ is_call called.now }
+/// Returns the outcome of a call that was refused with an error, or is an event. Takes the call's own
+/// completion out of its place, if it came in the event, and the refused call out of its place.
+#[inline(always)]
+pub(crate) fn called_by(
+    made: Result<(), Errno>,
+    own: &mut Option<Completion>,
+    call: &mut Call,
+) -> Called
+    ensures { result ≡ called_by made own.old call.old }
 {
-    !matches!(called, Called::Refused(_, _))
+    if let Err(errno) = made {
+        return refused(errno, call);
+    }
+    if own.is_none() {
+        return Called::Blocked;
+    }
+    let Some(completion) = own.take() else {
+        unreachable!()
+    };
+    Called::Done(completion)
+}
+
+/// Returns the outcome of a refused call, which it takes out of its place.
+#[cold]
+#[inline(never)]
+fn refused(errno: Errno, call: &mut Call) -> Called
+    ensures { result ≡ Refused errno call.old }
+{
+    Called::Refused(errno, mem::replace(call, Call::Shutdown))
 }
 
 /// Returns 1 for a call that is an event, and 0 for a refused call.
-pub(crate) fn events(called: &Called) -> u64
-    ensures number { result ≡ (if is_call called.now then 1 else 0) }
+pub(crate) fn events(made: &Result<(), Errno>) -> u64
+    ensures number { result ≡ (if is_made made.now then 1 else 0) }
     ensures few { result ≤ 1 }
 {
-    match called {
-        Called::Refused(_, _) => 0,
-        _ => 1,
+    match made {
+        Ok(_) => 1,
+        Err(_) => 0,
     }
 }
 
-/// Returns whether, after a call with this outcome, the completion of a blocked call isn't collected yet.
-/// `before` says whether this was true before the call.
-pub(crate) fn pends(called: &Called, before: bool) -> bool
-    ensures { result ≡ pends called.now before }
+/// Returns whether, after a call with this result, the completion of a blocked call isn't collected yet.
+/// `own` is the call's own completion, if it came in the call's event. `before` says whether this was true
+/// before the call.
+pub(crate) fn pends(made: &Result<(), Errno>, own: &Option<Completion>, before: bool) -> bool
+    ensures { result ≡ pends_with made.now own.now before }
 {
-    before || matches!(called, Called::Blocked)
+    match made {
+        Ok(_) => match own {
+            None => true,
+            Some(_) => before,
+        },
+        Err(_) => before,
+    }
 }
 
 /// Returns whether a call succeeded: whether its result is `Ok`.

@@ -62,7 +62,12 @@ impl<K: Tie> Log for GhostHistory<K> {
         None
     }
 
-    fn note(&mut self, made: u64, call: &Call, _copies: Option<LoggedCopy>) -> Result<(), Errno> {
+    fn note(
+        &mut self,
+        made: u64,
+        call: &Call,
+        _copies: &mut Option<LoggedCopy>,
+    ) -> Result<(), Errno> {
         if !matches!(call, Call::Shutdown) && made >= CALL_LIMIT - 1 {
             return Err(Errno::Exhausted);
         }

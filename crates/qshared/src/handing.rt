@@ -1,6 +1,6 @@
 //! Puts the completions of an event into the cells.
 
-ghost use Rattle.std.specs.Prelude.{◌≡◌, ◌<◌, ◌≤◌, ◌++◌, ℕ, [], ◌∷◌, length, Some};
+ghost use Rattle.std.specs.Prelude.{◌≡◌, ◌<◌, ◌≤◌, ◌++◌, ℕ, [], ◌∷◌, length, None, Some};
 ghost use Rattle.std.specs.List.{AllByRecursion};
 ghost use Rattle.qhandoff.specs.Rule.{line};
 ghost use Rattle.qhandoff.specs.Steps.{put_kernel_view};
@@ -32,6 +32,7 @@ pub(crate) fn place_of(kernel: &Kernel, thread: ThreadNo) -> Option<usize>
 }
 
 /// Puts one completion into its thread's cell, and returns the cell's index.
+#[inline(always)]
 fn hand_one(
     seat: &mut KernelSeat<Delivery>,
     cells: &Cells<Delivery, Origin>,
@@ -68,20 +69,22 @@ fn bit_of(place: usize) -> u64
 
 /// Puts the completions of an event into their threads' cells, and sets the bit of every cell that is filled.
 /// `seen` is the history up to this event. If one of them is for `scratch`'s own thread, it isn't put but
-/// returned, and the thread's cell is closed.
+/// kept in its place in `scratch`, and the thread's cell is closed.
 /// No two completions are for the same thread, so their order doesn't matter: the last is put first.
+#[inline(always)]
 pub(crate) fn hand_out<K: Tie>(
     seat: &mut KernelSeat<Delivery>,
     cells: &Cells<Delivery, Origin>,
     kernel: &Kernel,
     scratch: &mut CallScratch<K>,
     seen: &Prefix,
-) -> Option<Completion>
+)
     requires few { (cells_id cells.now).slots ≤ 64 }
     requires cells { kernel_id seat.old ≡ cells_id cells.now }
     requires sized { length (threads_of (members_of kernel.now.threads)) ≡ (cells_id cells.now).slots }
     requires place { place (threads_of (members_of kernel.now.threads)) scratch.old.seat.thread
         ≡ Some scratch.old.seat.index }
+    requires own { scratch.old.own ≡ None }
     requires apart { AreApart scratch.old.completions.value.items }
     requires may { AllByRecursion
         (MayPut (threads_of (members_of kernel.now.threads)) (kernel_view seat.old))
@@ -91,7 +94,8 @@ pub(crate) fn hand_out<K: Tie>(
         (threads_of (members_of kernel.now.threads)) scratch.old.seat.thread seen.now.trace
         (kernel_view seat.old)) scratch.old.completions.value.items }
     ensures cells { kernel_id seat.new ≡ kernel_id seat.old }
-    ensures own { of_thread scratch.old.seat.thread scratch.old.completions.value.items ≡ one result }
+    ensures own { of_thread scratch.old.seat.thread scratch.old.completions.value.items
+        ≡ one scratch.new.own }
     ensures handed { Handed (threads_of (members_of kernel.now.threads)) scratch.old.seat.thread
         scratch.old.completions.value.items (kernel_view seat.old) (kernel_view seat.new) }
     ensures seat { (scratch.new.seat ≡ scratch.old.seat) × (scratch.new.pending ≡ scratch.old.pending) }
@@ -101,15 +105,14 @@ pub(crate) fn hand_out<K: Tie>(
     let own_place = scratch.seat.index();
     let thread = scratch.seat.thread();
     let completions = &mut *scratch.completions;
-    let mut own = None;
+    let own = &mut scratch.own;
     while let Some(completion) = completions.pop() {
         if completion.thread == thread {
             cancel(seat, cells, own_place);
-            own = Some(completion);
+            *own = Some(completion);
         } else {
             let place = hand_one(seat, cells, kernel, completion, seen);
             scratch.woken |= bit_of(place);
         }
     }
-    own
 }

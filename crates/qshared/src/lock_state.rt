@@ -1,7 +1,7 @@
 //! The value under the lock.
 
 ghost use Rattle.std.specs.Prelude.{◌≡◌, ◌+◌, ◌++◌, ◌<◌, ◌≤◌, ◌^◌, ℕ, [], ◌∷◌, length, map, slice_index_or};
-ghost use Rattle.std.specs.Prelude.{IfSome, if◌then◌else◌, Some, true, false};
+ghost use Rattle.std.specs.Prelude.{IfErr, IfSome, is_ok, if◌then◌else◌, None, Some, true, false};
 ghost use lib.ListN.{get_elem?};
 ghost use Rattle.qrules.specs.Facts.{threads_of};
 ghost use Rattle.qhandoff.specs.Words.{cells_id};
@@ -10,16 +10,17 @@ ghost use Rattle.qshared.specs.Answered.{Answered, IsMet};
 ghost use Rattle.qshared.specs.Counting.{is_call, OnBusy};
 ghost use Rattle.qshared.specs.Delivered.{origin_of, IsOrigin};
 ghost use Rattle.qshared.specs.Due.{place};
+ghost use Rattle.qshared.specs.Performing.{called_by};
 
 use crate::asking::{KernelCalls, PortCalls};
 use crate::call_scratch::CallScratch;
-use crate::called::{Called, is_call};
 use crate::close_buffers::CloseBuffers;
 use crate::delivery::{Delivery, Origin};
 use crate::history::Prefix;
 use crate::log::Log;
 use crate::tie::{Tie, Whole};
 use crate::traced::Traced;
+use qbase::errno::Errno;
 use qhandoff::cells::Cells;
 use qmodel::call::Call;
 use std::snapshot::Snapshot;
@@ -83,6 +84,7 @@ impl<K: Tie, L: Log> LockState<K, L> {
 
     /// Makes a call of the thread that `scratch` belongs to. If the call is an event, counts it in the
     /// thread's share and adds it to the thread's list. Afterwards `seen` is the whole history.
+    #[inline(always)]
     pub(crate) fn call<R: Wait>(
         &mut self,
         cells: &Cells<Delivery, Origin>,
@@ -90,8 +92,8 @@ impl<K: Tie, L: Log> LockState<K, L> {
         scratch: &mut CallScratch<K>,
         asked: &mut PortCalls,
         seen: &mut Prefix,
-        call: Call,
-    ) -> Called
+        call: &mut Call,
+    ) -> Result<(), Errno>
         requires cells { (cells_id cells.now ≡ K.names.cells) × IsOrigin K.names (origin_of cells.now) }
         requires part { 0 < scratch.old.share.parts }
         requires seat { (place (threads_of K.names.roster) scratch.old.seat.thread
@@ -101,20 +103,24 @@ impl<K: Tie, L: Log> LockState<K, L> {
             → WaitedBefore seen.old.trace asked.old.calls scratch.old.seat.thread }
         requires asked { slice_index_or K.names.lists scratch.old.seat.index 0 ≡ asked.old.name }
         requires seen { seen.old.name ≡ K.names.history }
-        requires copies { IfSome scratch.old.copies (λ c. c ≡ call) }
+        requires copies { IfSome scratch.old.copies (λ c. c ≡ call.old) }
+        requires own { scratch.old.own ≡ None }
         ensures met { IsMet K.names.roster scratch.old.seat.thread asked.old.calls seen.old.trace
             self.old.traced.past }
-        ensures idle { is_call result ≡ true → scratch.old.pending ≡ false }
-        ensures busy { OnBusy result (scratch.old.pending ≡ true) }
-        ensures came { Answered K.names.roster L.refuses L.admits scratch.old.seat.thread call result
-            self.old.traced.past seen.new.trace }
+        ensures idle { is_call (called_by result scratch.new.own call.old) ≡ true
+            → scratch.old.pending ≡ false }
+        ensures busy { OnBusy (called_by result scratch.new.own call.old) (scratch.old.pending ≡ true) }
+        ensures came { Answered K.names.roster L.refuses L.admits scratch.old.seat.thread call.old
+            (called_by result scratch.new.own call.old) self.old.traced.past seen.new.trace }
+        ensures refused { IfErr result (λ e. call.new ≡ call.old) }
         ensures past { self.new.traced.past ≡ seen.new.trace }
         ensures seen { seen.new.name ≡ seen.old.name }
         ensures parts { scratch.new.share.parts ≡ scratch.old.share.parts }
         ensures amount { scratch.new.share.amount
-            ≡ scratch.old.share.amount + (if is_call result then 1 else 0) }
+            ≡ scratch.old.share.amount + (if is_ok result then 1 else 0) }
         ensures name { asked.new.name ≡ asked.old.name }
-        ensures asked { asked.new.calls ≡ asked.old.calls ++ (if is_call result then call ∷ [] else []) }
+        ensures asked { asked.new.calls
+            ≡ asked.old.calls ++ (if is_ok result then call.old ∷ [] else []) }
         ensures few { scratch.old.share.amount < 2 ^ 63 }
         ensures seat { (scratch.new.seat ≡ scratch.old.seat) × (scratch.new.pending ≡ scratch.old.pending) }
         ensures none { scratch.new.completions.value.items ≡ [] }
@@ -123,12 +129,12 @@ impl<K: Tie, L: Log> LockState<K, L> {
         let _events = self.traced.len();
         self.book.audit(&mut scratch.share);
         agree(asked, &mut self.heard, cell);
-        let asking = Snapshot::of(&call);
-        let called = self.traced.perform(cells, rt, scratch, seen, call);
-        if is_call(&called) {
+        let asking = Snapshot::of(&*call);
+        let made = self.traced.perform(cells, rt, scratch, seen, call);
+        if made.is_ok() {
             asked.ask(&mut self.heard[cell], &asking);
             self.book.add(&mut scratch.share, 1);
         }
-        called
+        made
     }
 }

@@ -49,10 +49,10 @@ pub trait Log: Drop {
     fn copies(alloc: Global, call: &Call) -> Option<LoggedCopy>
         ensures copied { IfSome result (λ copies. copies ≡ call.now) };
 
-    /// Notes a call before it is made; `made` calls were made before it. If the call is refused, nothing
-    /// changes.
-    fn note(&mut self, made: u64, call: &Call, copies: Option<LoggedCopy>) -> Result<(), Errno>
-        requires copies { IfSome copies (λ c. c ≡ call.now) }
+    /// Notes a call before it is made; `made` calls were made before it. A log that keeps the copies takes
+    /// them. If the call is refused, nothing else changes.
+    fn note(&mut self, made: u64, call: &Call, copies: &mut Option<LoggedCopy>) -> Result<(), Errno>
+        requires copies { IfSome copies.old (λ c. c ≡ call.now) }
         requires up { is_down (past self.old) ≡ false }
         requires made { made ≡ length (past self.old) }
         ensures same { (past self.new ≡ past self.old) × (roster self.new ≡ roster self.old) }

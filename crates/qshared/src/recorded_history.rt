@@ -181,8 +181,13 @@ impl<K: Tie> Log for RecordedHistory<K> {
         LoggedCopy::of(alloc, call)
     }
 
-    fn note(&mut self, _made: u64, call: &Call, copies: Option<LoggedCopy>) -> Result<(), Errno> {
-        match admit(self.alloc, &mut self.log, self.limit, call, copies) {
+    fn note(
+        &mut self,
+        _made: u64,
+        call: &Call,
+        copies: &mut Option<LoggedCopy>,
+    ) -> Result<(), Errno> {
+        match admit(self.alloc, &mut self.log, self.limit, call, copies.take()) {
             Err(errno) => Err(errno),
             Ok(copies) => {
                 let (noted, room) = copies;

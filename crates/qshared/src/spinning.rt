@@ -13,6 +13,7 @@ const LOOKS: u32 = 80;
 
 /// Takes the lock, and waits for it if another thread holds it. Spins before it sleeps if `looks` is true,
 /// and otherwise sleeps at once.
+#[inline(always)]
 pub(crate) fn lock<'a, T: Drop, R: Wait>(
     mutex: &'a Mutex<T>,
     looks: bool,

@@ -1,6 +1,7 @@
 //! A kernel with its history, and the kernel's token of the cells.
 
-ghost use Rattle.std.specs.Prelude.{◌≡◌, ◌<◌, ◌≤◌, ◌^◌, [], length, IfSome, Some, true, false};
+ghost use Rattle.std.specs.Prelude.{◌≡◌, ◌<◌, ◌≤◌, ◌^◌, [], length, IfErr, IfSome, None, Some, true};
+ghost use Rattle.std.specs.Prelude.{false};
 ghost use Rattle.qrules.specs.Facts.{threads_of};
 ghost use Rattle.qrules.specs.Lawful.{IsLawful};
 ghost use Rattle.qrules.specs.Properties.{HasProperties};
@@ -14,10 +15,9 @@ ghost use Rattle.qshared.specs.Asking.{WaitedBefore, calls_of};
 ghost use Rattle.qshared.specs.Counting.{is_call, OnBusy};
 ghost use Rattle.qshared.specs.Delivered.{kernel_view, origin_of, IsOrigin};
 ghost use Rattle.qshared.specs.Due.{place};
-ghost use Rattle.qshared.specs.Performing.{Performs, outcome};
+ghost use Rattle.qshared.specs.Performing.{Performs, called_by};
 
 use crate::call_scratch::CallScratch;
-use crate::called::Called;
 use crate::cell_steps::{cancel, open};
 use crate::delivery::{Delivery, Origin};
 use crate::handing::hand_out;
@@ -31,8 +31,9 @@ use qkernel::completions::Completions;
 use qkernel::kernel::Kernel;
 use qkernel::lent_call::LentCall;
 use qkernel::thread_ref::ThreadRef;
-use qmodel::call::{Call, Completion};
+use qmodel::call::Call;
 use std::marker::{Model, PhantomData};
+use std::mem;
 use std::snapshot::Snapshot;
 use std::sync::Wait;
 
@@ -67,40 +68,23 @@ impl<K: Tie, L: Log> Model for Traced<K, L> {
         × ((t.history.name ≡ K.names.history) × (t.history.trace ≡ L.past t.log))) };
 }
 
-// Returns the outcome of a call that is an event: `Done` if its own completion came in the event, and
-// otherwise `Blocked`.
-fn ended_or_open(own: Option<Completion>) -> Called
-    ensures { result ≡ outcome own }
-{
-    match own {
-        Some(completion) => Called::Done(completion),
-        None => Called::Blocked,
-    }
-}
-
 /// Makes a call of the thread at this index. The bytes of a Reply or a Write are only lent to the kernel, and
-/// the call stays in `lent`, so that they aren't freed under the lock.
-fn make_at(
-    kernel: &mut Kernel,
-    seat: &ThreadRef,
-    call: Call,
-    lent: &mut Option<Call>,
-    completions: &mut Completions,
-)
+/// the call stays in its place, so that they aren't freed under the lock. Any other call is taken out of it.
+fn make_at(kernel: &mut Kernel, seat: &ThreadRef, call: &mut Call, completions: &mut Completions)
     requires few { kernel.old.made < 2 ^ 40 }
     requires seat { IsSeatIn kernel.old.threads seat.now }
     requires none { completions.old.items ≡ [] }
-    ensures event { AnswersAtTraces kernel.old seat.now.thread call completions.new.items kernel.new }
+    ensures event { AnswersAtTraces kernel.old seat.now.thread call.old completions.new.items kernel.new }
     ensures roster { members_of kernel.new.threads ≡ members_of kernel.old.threads }
 {
-    if let Some(lending) = LentCall::of(&call) {
+    if let Some(lending) = LentCall::of(&*call) {
         let Ok(()) = kernel.call_lent_at(seat, &lending, completions) else {
             unreachable!();
         };
-        *lent = Some(call);
         return;
     }
-    let Ok(()) = kernel.call_at(seat, call, completions) else {
+    let taken = mem::replace(call, Call::Shutdown);
+    let Ok(()) = kernel.call_at(seat, taken, completions) else {
         unreachable!();
     };
 }
@@ -143,19 +127,21 @@ impl<K: Tie, L: Log> Traced<K, L> {
 
     /// Makes a call of the thread that `scratch` belongs to, for `Port::call`, which holds the lock. Opens
     /// the thread's cell, makes the call, and puts every other thread's completion into its cell. If the call
-    /// completed, closes the thread's cell and returns the completion. Afterwards `seen` is the whole
-    /// history.
+    /// completed, closes the thread's cell and leaves the completion in its place in `scratch`. Afterwards
+    /// `seen` is the whole history.
     ///
     /// The call is refused with `Down` after a Shutdown. Otherwise it is refused with `Busy` if the
-    /// completion of a blocked call isn't collected yet. Otherwise the log may refuse it.
+    /// completion of a blocked call isn't collected yet. Otherwise the log may refuse it. A refused call
+    /// stays in its place.
+    #[inline(always)]
     pub fn perform<R: Wait>(
         &mut self,
         cells: &Cells<Delivery, Origin>,
         rt: &R,
         scratch: &mut CallScratch<K>,
         seen: &mut Prefix,
-        call: Call,
-    ) -> Called
+        call: &mut Call,
+    ) -> Result<(), Errno>
         requires cells { (cells_id cells.now ≡ K.names.cells) × IsOrigin K.names (origin_of cells.now) }
         requires seat { place (threads_of K.names.roster) scratch.old.seat.thread
             ≡ Some scratch.old.seat.index }
@@ -164,11 +150,14 @@ impl<K: Tie, L: Log> Traced<K, L> {
             → WaitedBefore seen.old.trace
             (calls_of self.old.past scratch.old.seat.thread) scratch.old.seat.thread }
         requires seen { seen.old.name ≡ K.names.history }
-        requires copies { IfSome scratch.old.copies (λ c. c ≡ call) }
-        ensures idle { is_call result ≡ true → scratch.old.pending ≡ false }
-        ensures busy { OnBusy result (scratch.old.pending ≡ true) }
-        ensures performs { Performs K.names.roster L.refuses L.admits self.old scratch.old.seat.thread call
-            result self.new }
+        requires copies { IfSome scratch.old.copies (λ c. c ≡ call.old) }
+        requires own { scratch.old.own ≡ None }
+        ensures idle { is_call (called_by result scratch.new.own call.old) ≡ true
+            → scratch.old.pending ≡ false }
+        ensures busy { OnBusy (called_by result scratch.new.own call.old) (scratch.old.pending ≡ true) }
+        ensures performs { Performs K.names.roster L.refuses L.admits self.old scratch.old.seat.thread
+            call.old (called_by result scratch.new.own call.old) self.new }
+        ensures refused { IfErr result (λ e. call.new ≡ call.old) }
         ensures seat { (scratch.new.seat ≡ scratch.old.seat) × (scratch.new.pending ≡ scratch.old.pending) }
         ensures share { scratch.new.share ≡ scratch.old.share }
         ensures none { scratch.new.completions.value.items ≡ [] }
@@ -178,34 +167,27 @@ impl<K: Tie, L: Log> Traced<K, L> {
     {
         self.history.look(seen);
         if self.kernel.is_down() {
-            return Called::Refused(Errno::Down, call);
+            return Err(Errno::Down);
         }
         let seat = scratch.seat;
         let place = seat.index();
         if scratch.pending {
-            return Called::Refused(Errno::Busy, call);
+            return Err(Errno::Busy);
         }
         open(&mut self.seat, cells, place, rt);
-        let asking = Snapshot::of(&call);
+        let asking = Snapshot::of(&*call);
         let made = self.kernel.made();
-        let copies = scratch.copies.take();
-        if let Err(errno) = self.log.note(made, &call, copies) {
+        if let Err(errno) = self.log.note(made, &*call, &mut scratch.copies) {
             cancel(&mut self.seat, cells, place);
-            return Called::Refused(errno, call);
+            return Err(errno);
         }
-        make_at(
-            &mut self.kernel,
-            &seat,
-            call,
-            &mut scratch.lent,
-            &mut *scratch.completions,
-        );
+        make_at(&mut self.kernel, &seat, call, &mut *scratch.completions);
         self.log.event(&self.kernel, &seat, &*scratch.completions);
         let thread = seat.thread();
         let history = &mut self.history;
         history.add(&thread, &asking, &*scratch.completions);
         history.look(seen);
-        let own = hand_out(&mut self.seat, cells, &self.kernel, scratch, seen);
-        ended_or_open(own)
+        hand_out(&mut self.seat, cells, &self.kernel, scratch, seen);
+        Ok(())
     }
 }

@@ -1,7 +1,8 @@
 //! The calls that a port makes.
 
 ghost use Rattle.std.specs.Prelude.{◌≡◌, ◌+◌, ◌++◌, [], ◌∷◌, true, IfSome};
-ghost use Rattle.std.specs.Prelude.{if◌then◌else◌};
+ghost use Rattle.std.specs.Prelude.{if◌then◌else◌, is_ok, IfErr};
+ghost use Rattle.qshared.specs.Performing.{called_by};
 ghost use Rattle.qhandoff.specs.Words.{cells_id, thread_of};
 ghost use Rattle.qshared.specs.Delivered.{origin_of, taken, IsOrigin};
 ghost use Rattle.qshared.specs.History.{Extends};
@@ -11,7 +12,8 @@ ghost use Rattle.qshared.specs.Counting.{is_call, gives, pends, OnBusy};
 ghost use Rattle.qshared.specs.TwoCalls.{AnsweredBoth, calls_in, asked_by, gives_both, pends_both};
 ghost use Rattle.qshared.specs.TwoCalls.{OnBusyInBoth};
 
-use crate::called::{Called, CalledPair, events, is_ok, pends};
+use crate::call_scratch::{clear, copy_into, free_lent, keep_lent};
+use crate::called::{Called, CalledPair, called_by, events, is_ok, pends};
 use crate::delivery::{Delivery, Origin};
 use crate::lock_state::LockState;
 use crate::log::Log;
@@ -21,8 +23,10 @@ use crate::shared::Shared;
 use crate::spinning;
 use crate::tie::Tie;
 use qbase::bytes::Bytes;
+use qbase::errno::Errno;
 use qhandoff::cells::Cells;
 use qmodel::call::Call;
+use std::mem;
 use std::sync::Wait;
 
 /// Returns the bytes of a Reply or a Write, or `None` for another call.
@@ -60,15 +64,18 @@ impl<K: Tie> Port<K> {
         ensures same { (self.new.thread ≡ self.old.thread)
             × (thread_of self.new.seat ≡ thread_of self.old.seat) }
     {
+        let mut call = call;
         self.scratch.woken = 0;
-        self.scratch.lent = None;
-        self.scratch.copies = L::copies(self.scratch.alloc, &call);
-        let called = {
+        free_lent(&mut self.scratch.lent);
+        copy_into::<L>(self.scratch.alloc, &call, &mut self.scratch.copies);
+        let made = {
             let mut guard = spinning::lock(&*shared.lock, shared.looks, rt);
-            self.make(&shared.cells, rt, &mut **guard, call)
+            self.make(&shared.cells, rt, &mut **guard, &mut call)
         };
         shared.wake(self.scratch.woken);
-        self.scratch.copies = None;
+        clear(&mut self.scratch.copies);
+        let called = called_by(made, &mut self.scratch.own, &mut call);
+        keep_lent(&mut self.scratch.lent, call);
         called
     }
 
@@ -96,18 +103,18 @@ impl<K: Tie> Port<K> {
             × (thread_of self.new.seat ≡ thread_of self.old.seat) }
     {
         self.scratch.woken = 0;
-        self.scratch.lent = None;
-        self.scratch.copies = L::copies(self.scratch.alloc, &first);
+        free_lent(&mut self.scratch.lent);
+        copy_into::<L>(self.scratch.alloc, &first, &mut self.scratch.copies);
         let mut copies = L::copies(self.scratch.alloc, &second);
         let called = {
             let mut guard = spinning::lock(&*shared.lock, shared.looks, rt);
             let locked = &mut **guard;
-            let first = self.make(&shared.cells, rt, locked, first);
+            let first = self.make_whole(&shared.cells, rt, locked, first);
             match first {
                 Called::Done(completion) => {
                     if is_ok(completion.mark) {
                         self.scratch.copies = copies.take();
-                        let second = self.make(&shared.cells, rt, locked, second);
+                        let second = self.make_whole(&shared.cells, rt, locked, second);
                         CalledPair::Both(completion, second)
                     } else {
                         CalledPair::First(Called::Done(completion), second)
@@ -121,12 +128,12 @@ impl<K: Tie> Port<K> {
             }
         };
         shared.wake(self.scratch.woken);
-        self.scratch.copies = None;
+        clear(&mut self.scratch.copies);
         called
     }
 
-    /// Makes a call of the thread under the lock, which the caller holds.
-    fn make<L: Log, R: Wait>(
+    /// Makes a call of the thread under the lock, which the caller holds, and returns its outcome.
+    fn make_whole<L: Log, R: Wait>(
         &mut self,
         cells: &Cells<Delivery, Origin>,
         rt: &R,
@@ -150,7 +157,46 @@ impl<K: Tie> Port<K> {
         ensures same { (self.new.thread ≡ self.old.thread)
             × (thread_of self.new.seat ≡ thread_of self.old.seat) }
     {
-        let called = locked.call(
+        let mut call = call;
+        let made = self.make(cells, rt, locked, &mut call);
+        let called = called_by(made, &mut self.scratch.own, &mut call);
+        keep_lent(&mut self.scratch.lent, call);
+        called
+    }
+
+    /// Makes a call of the thread under the lock, which the caller holds. A refused call stays in its place.
+    /// If the call completes in its own event, its completion is in its place in `scratch` afterwards.
+    #[inline(always)]
+    fn make<L: Log, R: Wait>(
+        &mut self,
+        cells: &Cells<Delivery, Origin>,
+        rt: &R,
+        locked: &mut LockState<K, L>,
+        call: &mut Call,
+    ) -> Result<(), Errno>
+        requires cells { (cells_id cells.now ≡ K.names.cells) × IsOrigin K.names (origin_of cells.now) }
+        requires copies { IfSome self.old.scratch.copies (λ c. c ≡ call.old) }
+        ensures met { IsMet K.names.roster self.old.thread self.old.asked.calls self.old.seen.trace
+            locked.old.traced.past }
+        ensures came { Answered K.names.roster L.refuses L.admits self.old.thread call.old
+            (called_by result self.new.scratch.own call.old) locked.old.traced.past self.new.seen.trace }
+        ensures refused { IfErr result (λ e. call.new ≡ call.old) }
+        ensures past { locked.new.traced.past ≡ self.new.seen.trace }
+        ensures calls { self.new.calls ≡ self.old.calls + (if is_ok result then 1 else 0) }
+        ensures asked { self.new.asked.calls ≡ self.old.asked.calls
+            ++ (if is_ok result then call.old ∷ [] else []) }
+        ensures pending { self.new.scratch.pending
+            ≡ pends (called_by result self.new.scratch.own call.old) self.old.scratch.pending }
+        ensures busy { OnBusy (called_by result self.new.scratch.own call.old)
+            (self.old.scratch.pending ≡ true) }
+        ensures taken { collected_by self.new
+            ≡ collected_by self.old ++ gives (called_by result self.new.scratch.own call.old) }
+        ensures last { self.new.last.trace ≡ self.new.seen.trace }
+        ensures same { (self.new.thread ≡ self.old.thread)
+            × (thread_of self.new.seat ≡ thread_of self.old.seat) }
+    {
+        clear(&mut self.scratch.own);
+        let made = locked.call(
             cells,
             rt,
             &mut self.scratch,
@@ -159,9 +205,9 @@ impl<K: Tie> Port<K> {
             call,
         );
         self.last = self.seen.again();
-        self.calls += events(&called);
-        self.scratch.pending = pends(&called, self.scratch.pending);
-        called
+        self.calls += events(&made);
+        self.scratch.pending = pends(&made, &self.scratch.own, self.scratch.pending);
+        made
     }
 
     /// Returns the bytes of the last call, if it was a Reply or a Write that wasn't refused. Their memory can
@@ -175,8 +221,7 @@ impl<K: Tie> Port<K> {
             × (thread_of self.new.seat ≡ thread_of self.old.seat) × (self.new.calls ≡ self.old.calls)
             × (self.new.asked ≡ self.old.asked) × (self.new.seen ≡ self.old.seen) }
     {
-        let lent = self.scratch.lent.take()?;
-        bytes_of(lent)
+        bytes_of(mem::replace(&mut self.scratch.lent, Call::Shutdown))
     }
 
     /// Learns a prefix of the history that another port of the kernel has seen. The next call is then known

@@ -22,6 +22,7 @@ use std::sync::Wait;
 /// Takes the completion that was put for a thread, if it is `pending` and there, and learns the history up to
 /// the event that made it. The function has only the thread's token and the cells. So it can take no lock and
 /// no memory, and can't wait for another thread.
+#[inline(always)]
 fn take(
     seat: &mut ThreadSeat<Delivery>,
     cells: &Cells<Delivery, Origin>,

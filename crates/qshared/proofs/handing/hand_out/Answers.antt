@@ -40,6 +40,29 @@ loop-completion-preserved-then-eq g c =
           ∙ ap Some (sym c.index-own_place.ensures)));
     }
 
+pub loop-completion-preserved-then-eq-2 : goal.loop-completion-preserved-then-eq-2
+loop-completion-preserved-then-eq-2 g c =
+    let handing = rw c.in-Some.ensures.items at c.loop-completion.invariant.handing in
+    let caller : eqb c.in-Some.completion.thread c.thread-thread.result ≡ true = search rules in
+    let below = place_below (threads_of (members_of c.args.kernel.now.threads)) _ _ c.requires.place in
+    let near : c.index-own_place.result < length (kernel_view c.loop-completion.seat).lines =
+    omega (
+      arith,
+      wide_lines c.loop-completion.seat,
+      ap (λ z. z.slots) (c.loop-completion.invariant.cells ∙ c.requires.cells),
+      c.requires.sized,
+      below,
+      c.index-own_place.ensures,
+    ) in
+    record {
+      cells = c.cancel.ensures.cells ∙ c.loop-completion.invariant.cells;
+      handing =
+          rw c.cancel.ensures.kernel_view
+          (handing_own _ _ _ _ _ _ _ _ handing c.index-own_place.result near c.requires.apart caller
+          (ap (place (threads_of (members_of c.args.kernel.now.threads))) c.thread-thread.ensures ∙ c.requires.place
+          ∙ ap Some (sym c.index-own_place.ensures)));
+    }
+
 pub hand_one-place-requires-clause-may : goal.hand_one-place-requires-clause-may
 hand_one-place-requires-clause-may g c =
     let handing = rw c.in-Some.ensures.items at c.loop-completion.invariant.handing in
@@ -84,5 +107,7 @@ loop-completion-init g c =
     let same : X ≡ c.deref_mut-completions.result.now.items = grind (arith, common_steps) in
     record {
       cells = refl;
-      handing = subst (Handing ts X d d c.thread-thread.result None) same (handing_start ts X d c.thread-thread.result);
+      handing =
+          rw (c.requires.own)
+          (subst (Handing ts X d d c.thread-thread.result None) same (handing_start ts X d c.thread-thread.result));
     }

@@ -15,14 +15,14 @@ returns-clause-came g c =
         holds = (
           sym w.if-is_ok.ensures,
           (
-            c.make-first.new.self.seen.trace,
+            c.make_whole-first.new.self.seen.trace,
             w.in-Done.ensures.came,
-            subst (λ past. Answered roster log.refuses log.admits self.thread c.args.second w.make-second.result past
-                w.make-second.new.self.seen.trace) w.in-Done.ensures.past
+            subst (λ past. Answered roster log.refuses log.admits self.thread c.args.second w.make_whole-second.result
+                past w.make_whole-second.new.self.seen.trace) w.in-Done.ensures.past
                 (subst
-                (λ t. Answered roster log.refuses log.admits t c.args.second w.make-second.result
-                c.make-first.new.locked.traced.past w.make-second.new.self.seen.trace) w.in-Done.ensures.same.0
-                w.make-second.ensures.came),
+                (λ t. Answered roster log.refuses log.admits t c.args.second w.make_whole-second.result
+                c.make_whole-first.new.locked.traced.past w.make_whole-second.new.self.seen.trace)
+                w.in-Done.ensures.same.0 w.make_whole-second.ensures.came),
           ),
         );
       })
@@ -50,8 +50,8 @@ returns-clause-same g c =
     elim c.match-first.branch [
       | in-Done+then-is_ok w ↦
           rw w.self-is (
-            w.make-second.ensures.same.0 ∙ w.in-Done.ensures.same.0,
-            w.make-second.ensures.same.1
+            w.make_whole-second.ensures.same.0 ∙ w.in-Done.ensures.same.0,
+            w.make_whole-second.ensures.same.1
                 ∙ w.in-Done.ensures.same.1,
           )
       | in-Done+else-is_ok w ↦ rw w.self-is w.in-Done.ensures.same
@@ -64,9 +64,9 @@ returns-clause-asked g c =
     let old = c.args.self.now.asked.calls in
     elim c.match-first.branch [
       | in-Done+then-is_ok w ↦
-          let more = cond (is_call w.make-second.result) (c.args.second ∷ []) [] in
+          let more = cond (is_call w.make_whole-second.result) (c.args.second ∷ []) [] in
           rw (w.self-is, w.called-is)
-          (w.make-second.ensures.asked ∙ ap (λ cs. cs ++ more) w.in-Done.ensures.asked
+          (w.make_whole-second.ensures.asked ∙ ap (λ cs. cs ++ more) w.in-Done.ensures.asked
           ∙ append_assoc old (c.args.first ∷ []) more)
       | in-Done+else-is_ok w ↦ rw (w.self-is, w.called-is) w.in-Done.ensures.asked
       | in-Blocked w ↦ rw (w.self-is, w.called-is) w.in-Blocked.ensures.asked
@@ -79,9 +79,9 @@ returns-clause-taken g c =
     let old = collected self.last.trace self.thread (taken self.seat) in
     elim c.match-first.branch [
       | in-Done+then-is_ok w ↦
-          let more = gives w.make-second.result in
+          let more = gives w.make_whole-second.result in
           rw (w.self-is, w.called-is)
-          (w.make-second.ensures.taken ∙ ap (λ xs. xs ++ more) w.in-Done.ensures.taken
+          (w.make_whole-second.ensures.taken ∙ ap (λ xs. xs ++ more) w.in-Done.ensures.taken
           ∙ append_assoc old _ more)
       | in-Done+else-is_ok w ↦ rw (w.self-is, w.called-is) w.in-Done.ensures.taken
       | in-Blocked w ↦ rw (w.self-is, w.called-is) w.in-Blocked.ensures.taken

@@ -1,4 +1,7 @@
-use Rattle.qshared.proofs.Common.{[], refl, ap, sym, subst, ◌∙◌, arith, taken, calls_of, AreLater, at_once}
+use Rattle.qshared.proofs.Common.{[], ◌∷◌, ◌++◌, cond, refl, ap, sym, subst, ◌∙◌, arith, taken, calls_of, AreLater}
+use Rattle.qshared.proofs.Common.{at_once}
+use Rattle.qshared.specs.Performing.{called_by, pends_with}
+use Rattle.qshared.proofs.Busy.{is_event, pends_called}
 use Rattle.qshared.proofs.Collecting.{calls_after, later_after}
 use Rattle.qshared.proofs.Turns.{extends_since, since_extends}
 use Rattle.qshared.proofs.port.Port.make.Goals as goal
@@ -6,7 +9,9 @@ use Rattle.qshared.proofs.port.Port.make.Goals as goal
 pub invariant_of-self : goal.invariant_of-self
 invariant_of-self g c =
     let self = c.args.self.now in
-    let e = c.call-called.ensures in
+    let e = c.call-made.ensures in
+    let own = c.call-made.new.scratch.own in
+    let p = called_by c.call-made.result own c.args.call.now in
     let t = self.scratch.seat.thread in
     let calls = ap (calls_of self.last.trace) self.scratch_is.0 ∙ self.calls_are in
     let later = subst (λ u. AreLater self.scratch.pending (at_once self.last.trace u) (taken self.seat))
@@ -14,13 +19,13 @@ invariant_of-self g c =
     let since = extends_since self.seen.trace self.last.trace self.since in
     let copy = ap (λ s. s.trace) c.again-self.ensures.copy in
     let kept =
-    (calls_after g.K.Tie.names.roster g.L.Log.refuses g.L.Log.admits t c.args.call self.asked.calls self.seen.trace
-    self.last.trace c.args.locked.now.traced.past c.call-called.new.seen.trace e.met since calls
-    (taken self.seat) self.scratch.pending later c.call-called.result e.came) in
+    (calls_after g.K.Tie.names.roster g.L.Log.refuses g.L.Log.admits t c.args.call.now self.asked.calls self.seen.trace
+    self.last.trace c.args.locked.now.traced.past c.call-made.new.seen.trace e.met since calls
+    (taken self.seat) self.scratch.pending later p e.came) in
     let r =
-    later_after g.K.Tie.names.roster g.L.Log.refuses g.L.Log.admits t c.args.call self.asked.calls self.seen.trace
-    self.last.trace c.args.locked.now.traced.past c.call-called.new.seen.trace e.met since calls
-    (taken self.seat) self.scratch.pending later c.call-called.result e.came e.idle in
+    later_after g.K.Tie.names.roster g.L.Log.refuses g.L.Log.admits t c.args.call.now self.asked.calls self.seen.trace
+    self.last.trace c.args.locked.now.traced.past c.call-made.new.seen.trace e.met since calls
+    (taken self.seat) self.scratch.pending later p e.came e.idle in
     record {
       seat_is = self.seat_is;
       thread_is = self.thread_is;
@@ -30,15 +35,26 @@ invariant_of-self g c =
       part = e.parts ∙ self.part;
       asked_is = self.asked_is ∙ sym e.name;
       seen_is = e.seen ∙ self.seen_is;
-      since = rw copy (since_extends c.call-called.new.seen.trace c.call-called.new.seen.trace ([], refl));
-      calls_are = rw (copy, sym self.scratch_is.0) (kept ∙ sym e.asked);
-      later = rw (c.pends-self.ensures, e.seat.1, copy, sym self.scratch_is.0) r.0;
+      since = rw copy (since_extends c.call-made.new.seen.trace c.call-made.new.seen.trace ([], refl));
+      calls_are =
+          rw (copy, sym self.scratch_is.0) (kept ∙ ap (λ b. self.asked.calls ++ cond b (c.args.call.now ∷ []) [])
+          (is_event c.call-made.result own c.args.call.now) ∙ sym e.asked);
+      later =
+          rw (
+            c.pends-self.ensures,
+            e.seat.1,
+            sym (pends_called c.call-made.result own c.args.call.now self.scratch.pending),
+            copy,
+            sym self.scratch_is.0,
+          ) r.0;
     }
 
 pub returns-clause-taken : goal.returns-clause-taken
 returns-clause-taken g c =
     let self = c.args.self.now in
-    let e = c.call-called.ensures in
+    let e = c.call-made.ensures in
+    let own = c.call-made.new.scratch.own in
+    let p = called_by c.call-made.result own c.args.call.now in
     let t = self.scratch.seat.thread in
     let calls = ap (calls_of self.last.trace) self.scratch_is.0 ∙ self.calls_are in
     let later = subst (λ u. AreLater self.scratch.pending (at_once self.last.trace u) (taken self.seat))
@@ -46,6 +62,13 @@ returns-clause-taken g c =
     let since = extends_since self.seen.trace self.last.trace self.since in
     let copy = ap (λ s. s.trace) c.again-self.ensures.copy in
     rw (copy, sym self.scratch_is.0)
-    (later_after g.K.Tie.names.roster g.L.Log.refuses g.L.Log.admits t c.args.call self.asked.calls self.seen.trace
-    self.last.trace c.args.locked.now.traced.past c.call-called.new.seen.trace e.met since calls
-    (taken self.seat) self.scratch.pending later c.call-called.result e.came e.idle).1
+    (later_after g.K.Tie.names.roster g.L.Log.refuses g.L.Log.admits t c.args.call.now self.asked.calls self.seen.trace
+    self.last.trace c.args.locked.now.traced.past c.call-made.new.seen.trace e.met since calls
+    (taken self.seat) self.scratch.pending later p e.came e.idle).1
+
+pub returns-clause-pending : goal.returns-clause-pending
+returns-clause-pending g c =
+    let made = c.call-made in
+    let before = c.args.self.now.scratch.pending in
+    c.pends-self.ensures ∙ ap (pends_with made.result made.new.scratch.own) made.ensures.seat.1
+    ∙ sym (pends_called made.result made.new.scratch.own c.args.call.now before)

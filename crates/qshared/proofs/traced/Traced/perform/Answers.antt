@@ -37,8 +37,8 @@ returns-then-scratch-clause-performs g c =
           (c.requires.pending c.if-scratch.true)))),
     )
 
-pub hand_out-own-requires-clause-place : goal.hand_out-own-requires-clause-place
-hand_out-own-requires-clause-place g c =
+pub hand_out-requires-clause-place : goal.hand_out-requires-clause-place
+hand_out-requires-clause-place g c =
     let t = c.args.scratch.now.seat.thread in
     ap (λ ms. place (threads_of ms) t) c.make_at.ensures.roster ∙ ap (λ ts. place ts t) c.self.invariant.2.threads_are
     ∙ c.requires.seat
@@ -130,9 +130,9 @@ event-requires-clause-answers g c =
     (c.make_at.ensures.event g.K.Tie.names.roster (g.L.Log.past c.self.inside.log) c.self.invariant.2.told.lawful
     c.self.invariant.2.told.matches).0
 
-pub hand_out-own-requires-clause-apart : goal.hand_out-own-requires-clause-apart
-hand_out-own-requires-clause-apart g c =
-    let event : AnswersAtTraces c.self.inside.kernel c.args.scratch.now.seat.thread c.args.call
+pub hand_out-requires-clause-apart : goal.hand_out-requires-clause-apart
+hand_out-requires-clause-apart g c =
+    let event : AnswersAtTraces c.self.inside.kernel c.args.scratch.now.seat.thread c.args.call.now
     c.make_at.new.completions.items c.make_at.new.kernel = c.make_at.ensures.event in
     let at : place (threads_of g.K.Tie.names.roster) c.args.scratch.now.seat.thread ≡ Some c.index-place.result =
     c.requires.seat ∙ ap Some (sym c.index-place.ensures) in
@@ -141,11 +141,11 @@ hand_out-own-requires-clause-apart g c =
     let wide : length (kernel_view c.self.inside.seat).lines ≡ g.K.Tie.names.cells.slots = wide_lines c.self.inside.seat
     ∙ ap (λ z. z.slots) c.self.invariant.0 in
     apart _ _ _ _ _ _ c.self.invariant.2 c.args.scratch.now.seat.thread c.index-place.result at up closed wide
-    c.in_default.ensures.few c.args.call c.make_at.new.completions.items c.make_at.new.kernel event
+    c.in_default.ensures.few c.args.call.now c.make_at.new.completions.items c.make_at.new.kernel event
 
-pub hand_out-own-requires-clause-may : goal.hand_out-own-requires-clause-may
-hand_out-own-requires-clause-may g c =
-    let event : AnswersAtTraces c.self.inside.kernel c.args.scratch.now.seat.thread c.args.call
+pub hand_out-requires-clause-may : goal.hand_out-requires-clause-may
+hand_out-requires-clause-may g c =
+    let event : AnswersAtTraces c.self.inside.kernel c.args.scratch.now.seat.thread c.args.call.now
     c.make_at.new.completions.items c.make_at.new.kernel = c.make_at.ensures.event in
     let at : place (threads_of g.K.Tie.names.roster) c.args.scratch.now.seat.thread ≡ Some c.index-place.result =
     c.requires.seat ∙ ap Some (sym c.index-place.ensures) in
@@ -156,11 +156,11 @@ hand_out-own-requires-clause-may g c =
     ∙ ap (λ z. z.slots) c.self.invariant.0 in
     rw (c.make_at.ensures.roster, opened)
     (may_put _ _ _ _ _ _ c.self.invariant.2 c.args.scratch.now.seat.thread c.index-place.result at up closed wide
-    c.in_default.ensures.few c.args.call c.make_at.new.completions.items c.make_at.new.kernel event)
+    c.in_default.ensures.few c.args.call.now c.make_at.new.completions.items c.make_at.new.kernel event)
 
 pub invariant_of-self-2 : goal.invariant_of-self-2
 invariant_of-self-2 g c =
-    let event : AnswersAtTraces c.self.inside.kernel c.args.scratch.now.seat.thread c.args.call
+    let event : AnswersAtTraces c.self.inside.kernel c.args.scratch.now.seat.thread c.args.call.now
     c.make_at.new.completions.items c.make_at.new.kernel = c.make_at.ensures.event in
     let at : place (threads_of g.K.Tie.names.roster) c.args.scratch.now.seat.thread ≡ Some c.index-place.result =
     c.requires.seat ∙ ap Some (sym c.index-place.ensures) in
@@ -169,28 +169,28 @@ invariant_of-self-2 g c =
     let closed = c.open.ensures.closed in
     let wide : length (kernel_view c.self.inside.seat).lines ≡ g.K.Tie.names.cells.slots = wide_lines c.self.inside.seat
     ∙ ap (λ z. z.slots) c.self.invariant.0 in
-    let handed = rw (c.make_at.ensures.roster, opened) at c.hand_out-own.ensures.handed in
+    let handed = rw (c.make_at.ensures.roster, opened) at c.hand_out.ensures.handed in
     let past = c.event.ensures.event
     ∙ ap (λ x. with_event c.args.scratch.now.seat.thread (g.L.Log.noted c.note.new.self) x.items
     (g.L.Log.past c.note.new.self)) c.deref.ensures
     ∙ ap (λ k. with_event c.args.scratch.now.seat.thread k c.make_at.new.completions.items
     (g.L.Log.past c.note.new.self)) c.in_default.ensures.noted.0
-    ∙ ap (λ p. with_event c.args.scratch.now.seat.thread c.args.call c.make_at.new.completions.items p)
+    ∙ ap (λ p. with_event c.args.scratch.now.seat.thread c.args.call.now c.make_at.new.completions.items p)
     c.note.ensures.same.0 in
     let t = c.args.scratch.now.seat.thread in
     let X = c.make_at.new.completions.items in
     let seen = c.add.ensures.past
     ∙ ap (λ u. with_event u c.of-asking.result.value c.deref-2.result.now.items c.look.new.self.trace)
     c.thread-thread.ensures ∙ ap (λ k. with_event t k c.deref-2.result.now.items c.look.new.self.trace)
-    c.of-asking.ensures ∙ ap (λ x. with_event t c.args.call x.items c.look.new.self.trace) c.deref-2.ensures
-    ∙ ap (λ h. with_event t c.args.call X h.trace) c.look.ensures.same
-    ∙ ap (λ p. with_event t c.args.call X p) c.self.invariant.3.1 in (
-      c.hand_out-own.ensures.cells ∙ c.open.ensures.cells ∙ c.self.invariant.0,
+    c.of-asking.ensures ∙ ap (λ x. with_event t c.args.call.now x.items c.look.new.self.trace) c.deref-2.ensures
+    ∙ ap (λ h. with_event t c.args.call.now X h.trace) c.look.ensures.same
+    ∙ ap (λ p. with_event t c.args.call.now X p) c.self.invariant.3.1 in (
+      c.hand_out.ensures.cells ∙ c.open.ensures.cells ∙ c.self.invariant.0,
       c.event.ensures.same ∙ c.note.ensures.same.1 ∙ c.self.invariant.1,
       rw (past, c.make_at.ensures.roster)
           (held_after _ _ _ _ _ _ c.self.invariant.2 c.args.scratch.now.seat.thread c.index-place.result at up closed
-          wide c.in_default.ensures.few c.args.call c.make_at.new.completions.items c.make_at.new.kernel event
-          (kernel_view c.hand_out-own.new.seat) handed),
+          wide c.in_default.ensures.few c.args.call.now c.make_at.new.completions.items c.make_at.new.kernel event
+          (kernel_view c.hand_out.new.seat) handed),
       (
         ap (λ h. h.name) c.look-2.ensures.same ∙ c.add.ensures.name ∙ ap (λ h. h.name) c.look.ensures.same
             ∙ c.self.invariant.3.0,
@@ -200,7 +200,7 @@ invariant_of-self-2 g c =
 
 pub returns-clause-performs : goal.returns-clause-performs
 returns-clause-performs g c =
-    let event : AnswersAtTraces c.self.inside.kernel c.args.scratch.now.seat.thread c.args.call
+    let event : AnswersAtTraces c.self.inside.kernel c.args.scratch.now.seat.thread c.args.call.now
     c.make_at.new.completions.items c.make_at.new.kernel = c.make_at.ensures.event in
     let at : place (threads_of g.K.Tie.names.roster) c.args.scratch.now.seat.thread ≡ Some c.index-place.result =
     c.requires.seat ∙ ap Some (sym c.index-place.ensures) in
@@ -213,12 +213,12 @@ returns-clause-performs g c =
     (g.L.Log.past c.note.new.self)) c.deref.ensures
     ∙ ap (λ k. with_event c.args.scratch.now.seat.thread k c.make_at.new.completions.items
     (g.L.Log.past c.note.new.self)) c.in_default.ensures.noted.0
-    ∙ ap (λ p. with_event c.args.scratch.now.seat.thread c.args.call c.make_at.new.completions.items p)
+    ∙ ap (λ p. with_event c.args.scratch.now.seat.thread c.args.call.now c.make_at.new.completions.items p)
     c.note.ensures.same.0 in
-    rw (← c.self.view_is, c.ended_or_open.ensures, past)
+    rw (← c.self.view_is, past)
     (performs _ _ _ _ _ _ c.self.invariant.2 c.args.scratch.now.seat.thread c.index-place.result at up closed wide
-    c.in_default.ensures.few c.args.call c.make_at.new.completions.items c.make_at.new.kernel event g.L.Log.refuses
-    g.L.Log.admits _ c.in_default.ensures.admitted c.hand_out-own.result c.hand_out-own.ensures.own)
+    c.in_default.ensures.few c.args.call.now c.make_at.new.completions.items c.make_at.new.kernel event g.L.Log.refuses
+    g.L.Log.admits _ c.in_default.ensures.admitted c.hand_out.new.scratch.own c.hand_out.ensures.own)
 
 pub note-requires-clause-up : goal.note-requires-clause-up
 note-requires-clause-up g c = sym (matches_down _ _ _ c.self.invariant.2.told.matches) ∙ sym c.is_down.ensures
@@ -237,13 +237,13 @@ make_at-requires-clause-seat g c =
     seat_at_place _ c.args.scratch.now.seat
     (ap (λ ts. place ts c.args.scratch.now.seat.thread) c.self.invariant.2.threads_are ∙ c.requires.seat)
 
-pub hand_out-own-requires-clause-seen : goal.hand_out-own-requires-clause-seen
-hand_out-own-requires-clause-seen g c = c.look-2.ensures.name ∙ c.look.ensures.name ∙ c.requires.seen
+pub hand_out-requires-clause-seen : goal.hand_out-requires-clause-seen
+hand_out-requires-clause-seen g c = c.look-2.ensures.name ∙ c.look.ensures.name ∙ c.requires.seen
     ∙ sym c.requires.cells.1.1
 
-pub hand_out-own-requires-clause-arrive : goal.hand_out-own-requires-clause-arrive
-hand_out-own-requires-clause-arrive g c =
-    let event : AnswersAtTraces c.self.inside.kernel c.args.scratch.now.seat.thread c.args.call
+pub hand_out-requires-clause-arrive : goal.hand_out-requires-clause-arrive
+hand_out-requires-clause-arrive g c =
+    let event : AnswersAtTraces c.self.inside.kernel c.args.scratch.now.seat.thread c.args.call.now
     c.make_at.new.completions.items c.make_at.new.kernel = c.make_at.ensures.event in
     let at : place (threads_of g.K.Tie.names.roster) c.args.scratch.now.seat.thread ≡ Some c.index-place.result =
     c.requires.seat ∙ ap Some (sym c.index-place.ensures) in
@@ -257,15 +257,15 @@ hand_out-own-requires-clause-arrive g c =
     let seen = c.look-2.ensures.seen ∙ c.add.ensures.past
     ∙ ap (λ u. with_event u c.of-asking.result.value c.deref-2.result.now.items c.look.new.self.trace)
     c.thread-thread.ensures ∙ ap (λ k. with_event t k c.deref-2.result.now.items c.look.new.self.trace)
-    c.of-asking.ensures ∙ ap (λ x. with_event t c.args.call x.items c.look.new.self.trace) c.deref-2.ensures
-    ∙ ap (λ h. with_event t c.args.call X h.trace) c.look.ensures.same
-    ∙ ap (λ p. with_event t c.args.call X p) c.self.invariant.3.1 in
+    c.of-asking.ensures ∙ ap (λ x. with_event t c.args.call.now x.items c.look.new.self.trace) c.deref-2.ensures
+    ∙ ap (λ h. with_event t c.args.call.now X h.trace) c.look.ensures.same
+    ∙ ap (λ p. with_event t c.args.call.now X p) c.self.invariant.3.1 in
     rw (c.requires.cells.1.0, c.make_at.ensures.roster, opened, seen)
     (may_arrive _ _ _ _ _ _ c.self.invariant.2 c.args.scratch.now.seat.thread c.index-place.result at up closed wide
-    c.in_default.ensures.few c.args.call c.make_at.new.completions.items c.make_at.new.kernel event)
+    c.in_default.ensures.few c.args.call.now c.make_at.new.completions.items c.make_at.new.kernel event)
 
 pub returns-in-Err-clause-busy : goal.returns-in-Err-clause-busy
-returns-in-Err-clause-busy g c = other_error c.in-Err.errno c.args.call _ c.in-Err.ensures.idle
+returns-in-Err-clause-busy g c = other_error c.in-Err.errno c.args.call.now _ c.in-Err.ensures.idle
 
 pub returns-clause-busy : goal.returns-clause-busy
-returns-clause-busy g c = rw (c.ended_or_open.ensures) (made_busy c.hand_out-own.result _)
+returns-clause-busy g c = made_busy c.hand_out.new.scratch.own _
