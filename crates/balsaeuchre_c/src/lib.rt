@@ -2,7 +2,7 @@
 //! also has the duties of a caller.
 #![tactic(auto)]
 
-ghost use Rattle.std.specs.Prelude.{◌≡◌, ◌≤◌, length, Some};
+ghost use Rattle.std.specs.Prelude.{◌≡◌, ◌≤◌, ◌++◌, [], ◌∷◌, length, Some};
 ghost use Rattle.qbase.specs.declared.errno.Errno.{Errno};
 ghost use Rattle.qkernel_state.specs.Contents.{members_of};
 ghost use Rattle.balsaeuchre_c.specs.declared.session.Session.{Session};
@@ -10,12 +10,19 @@ ghost use Rattle.qbase.specs.declared.errno.TheConstants.{ERRNOS};
 ghost use Rattle.balsaeuchre_c.specs.Calling.{CallError, IsEvent};
 ghost use Rattle.balsaeuchre_c.specs.Numbers.{numbered};
 ghost use Rattle.balsaeuchre_c.specs.Opening.{IsNewOf, NewError};
+ghost use Rattle.balsaeuchre_c.specs.Desks.{OnDesk};
+ghost use Rattle.balsaeuchre_c.specs.Ports.{IsNewDesk, IsPortEvent, IsPortOf, IsRowOf, PortCallError};
+ghost use Rattle.balsaeuchre_c.specs.Delivering.{WasMade};
+ghost use Rattle.balsaeuchre_c.specs.Desks.{roster_of, under};
+ghost use Rattle.qhandoff.specs.Words.{taken};
+ghost use Rattle.qmodel.specs.declared.call.Completion.{Completion};
 
 mod calling;
 mod error;
 mod handle;
 mod kind;
 mod opening;
+mod ports;
 mod request;
 mod roster;
 mod row;
@@ -25,6 +32,10 @@ mod write_rows;
 
 use error::errno_number;
 use handle::Handle;
+use ports::calling::PortAnswer;
+use ports::desk_handle::DeskHandle;
+use ports::port_handle::PortHandle;
+use ports::told::write_row;
 use request::CallRequest;
 use roster::RosterThread;
 use row::Row;
@@ -98,5 +109,105 @@ pub extern "C" fn balsaeuchre_make_call(
             0
         }
         Err(errno) => u32::from(errno_number(errno)),
+    }
+}
+
+/// Makes a kernel of these threads with its cells. Writes the address of the desk to `desk`, and the
+/// addresses of the ports to `ports`, in ascending order of thread number. Returns 0. On an error it returns
+/// the error's number, and writes nothing.
+#[unsafe(no_mangle)]
+pub extern "C" fn balsaeuchre_open_ports(
+    alloc: Global,
+    threads: &[RosterThread],
+    desk: &mut *mut u8,
+    ports: &mut [*mut u8],
+) -> u32
+    ensures made { result ≡ 0 → (opened : OnDesk) × IsNewDesk threads.now opened }
+{
+    match ports::opening::open(alloc, threads) {
+        Ok(opened) => {
+            let (made, others) = opened;
+            *desk = NonNull::from_mut(Box::leak(made)).cast::<u8>().as_ptr();
+            let mut place = 0;
+            for port in others {
+                if place < ports.len() {
+                    ports[place] = NonNull::from_mut(Box::leak(port)).cast::<u8>().as_ptr();
+                    place += 1;
+                }
+            }
+            0
+        }
+        Err(errno) => u32::from(errno_number(errno)),
+    }
+}
+
+/// Frees a desk.
+#[unsafe(no_mangle)]
+pub extern "C" fn balsaeuchre_close_desk(desk: DeskHandle) {
+    drop(desk.into_box());
+}
+
+/// Frees a port.
+#[unsafe(no_mangle)]
+pub extern "C" fn balsaeuchre_close_port(port: PortHandle) {
+    drop(port.into_box());
+}
+
+/// Makes a call of a port's thread, under the program's lock. Returns 0, and writes the answer. On an error
+/// it returns the error's number, and changes and writes nothing.
+#[unsafe(no_mangle)]
+pub extern "C" fn balsaeuchre_port_call(
+    desk: &mut DeskHandle,
+    port: &mut PortHandle,
+    request: &CallRequest,
+    sent: &[u8],
+    room: &[u8],
+    bytes: &mut [u8],
+    answer: &mut PortAnswer,
+) -> u32
+    requires ours { IsPortOf desk.old.desk port.old.port }
+    ensures event { result ≡ 0
+        → IsPortEvent desk.old.desk port.old.port.place.thread request.now sent.now room.now desk.new.desk
+        bytes.old bytes.new answer.new }
+    ensures refused { 1 ≤ result → (errno : Errno) × (numbered ERRNOS result ≡ Some errno)
+        × PortCallError desk.old.desk port.old.port.place.thread request.now sent.now room.now errno }
+    ensures unchanged { 1 ≤ result → (under desk.new.desk ≡ under desk.old.desk)
+        × (bytes.new ≡ bytes.old) × (answer.new ≡ answer.old) }
+    ensures cells { desk.new.desk.cells ≡ desk.old.desk.cells }
+    ensures port { port.new.port ≡ port.old.port }
+{
+    let own = port.get_mut();
+    match ports::calling::call(desk.get_mut(), &*own, request, sent, room, bytes) {
+        Ok(made) => {
+            *answer = made;
+            0
+        }
+        Err(errno) => u32::from(errno_number(errno)),
+    }
+}
+
+/// Takes the completion that was put for a port's thread. Returns 1, and writes the completion. Returns 0,
+/// and writes nothing, if there is none. Needs no lock, and takes no memory.
+#[unsafe(no_mangle)]
+pub extern "C" fn balsaeuchre_port_poll(
+    port: &mut PortHandle,
+    row: &mut Row,
+    bytes: &mut [u8],
+) -> u32
+    ensures none { result ≡ 0 → (taken port.new.port.seat ≡ taken port.old.port.seat)
+        × (row.new ≡ row.old) × (bytes.new ≡ bytes.old) }
+    ensures some { 1 ≤ result → (x : Completion)
+        × (taken port.new.port.seat ≡ taken port.old.port.seat ++ x ∷ [])
+        × WasMade (roster_of port.old.port.cells) port.old.port.place.index (taken port.new.port.seat) x
+        × IsRowOf x bytes.old bytes.new row.new }
+    ensures same { (port.new.port.cells ≡ port.old.port.cells)
+        × (port.new.port.place ≡ port.old.port.place) }
+{
+    match port.get_mut().poll() {
+        Some(completion) => {
+            *row = write_row(&completion, bytes);
+            1
+        }
+        None => 0,
     }
 }

@@ -251,6 +251,21 @@ impl Row {
         }
     }
 
+    /// Returns the row of a completion, without the data of a received message. `told_len` bytes of its
+    /// buffer belong to it. They begin at `start` in C's array `bytes`, and `written` of them were written.
+    pub fn of_completion(
+        completion: &Completion,
+        start: usize,
+        told_len: usize,
+        written: usize,
+    ) -> Row
+        requires { told_len ≡ length (told_bytes completion.now) }
+        ensures of { IsOf result completion.now start written }
+        ensures mark { mark_of result ≡ Some completion.now.mark }
+    {
+        Row::without_mark(completion, start, told_len, written).with_mark(completion.mark, None)
+    }
+
     /// Returns the row of a completion of the kernel's last event. `told_len` bytes of its buffer belong to
     /// it. They begin at `start` in C's array `bytes`, and `written` of them were written.
     pub fn of(

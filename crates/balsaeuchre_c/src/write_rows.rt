@@ -28,7 +28,7 @@ fn front(bytes: &[u8], count: usize) -> &[u8]
 }
 
 /// Returns the part of a completion's buffer that is written for C.
-fn told_front(completion: &Completion) -> &[u8]
+pub fn told_front(completion: &Completion) -> &[u8]
     ensures { result.now ≡ told_bytes completion.now }
 {
     let buffer = completion.buffer.as_slice();
