@@ -57,6 +57,10 @@ impl Run {
         ensures known { OnOk result (is_some (member_at (members_of self.old.kernel.threads) thread) ≡ true) }
         ensures made { OnOk result (self.new.kernel.made ≡ self.old.kernel.made + 1) }
         ensures error { IfErr result (λ e. (e ≡ Errno.NoMemory) ⊎ DispatchError self.old.kernel thread e) }
+
+        // If no call is made, the kernel and the text stay as they are.
+        ensures unchanged { IfErr result (λ e. (e ≡ Errno.NoMemory)
+            ⊎ ((self.new.kernel ≡ self.old.kernel) × (self.new.printer ≡ self.old.printer))) }
     {
         let Some(seat) = self.kernel.seat(thread) else {
             return Err(Errno::NoThread);
