@@ -7,7 +7,6 @@ use qdemo_commands::command::ServeRun;
 use qdemo_commands::completion::{end_failed, end_quietly, end_unwritten, end_with};
 use qdemo_commands::json::numbers_line;
 use qdemo_commands::streams::Outlet;
-use qdemo_commands::summary::with_units;
 use qdemo_serve::fault::ServeFault;
 use qdemo_serve::recording::{Forget, RecordStore};
 use qdemo_serve::serve::{lines_of, serve, write_results};
@@ -53,8 +52,7 @@ pub fn run_serve<R: Files + Print + Eprint + AllocGlobal + Threads + Wait + Cloc
     serve_with(rt, settings, json, &mut files)
 }
 
-/// Runs a server and its clients, stores their recording, and prints the results as lines, with units or as
-/// JSON.
+/// Runs a server and its clients, stores their recording, and prints the results as lines or as JSON.
 fn serve_with<R: Print + Eprint + AllocGlobal + Threads + Wait + Clock + Sync, S: RecordStore>(
     rt: &R,
     settings: Settings,
@@ -65,7 +63,7 @@ fn serve_with<R: Print + Eprint + AllocGlobal + Threads + Wait + Clock + Sync, S
 {
     match serve(rt, rt.alloc(), settings, store) {
         Ok(totals) if json => print_results(rt, json_of(rt.alloc(), &totals)),
-        Ok(totals) if settings.time => print_results(rt, timed_of(rt.alloc(), &totals)),
+        Ok(totals) if settings.time => print_results(rt, lines_of(rt.alloc(), &totals)),
         Ok(totals) => print_lines(rt, &totals),
         Err(fault) => end_served(rt, fault),
     }
@@ -87,12 +85,6 @@ fn print_lines<R: Print + Eprint + AllocGlobal>(rt: &R, totals: &Totals) -> Exit
         Err(ServeFault::Write) if writer.into_inner().is_closed() => end_quietly(),
         Err(fault) => end_served(rt, fault),
     }
-}
-
-/// Returns the lines of results with units.
-fn timed_of(alloc: Global, totals: &Totals) -> Result<String, AllocError> {
-    let lines = lines_of(alloc, totals)?;
-    with_units(alloc, lines.as_str())
 }
 
 /// Returns the results as a line of JSON.

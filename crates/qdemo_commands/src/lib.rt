@@ -16,5 +16,4 @@ pub mod play;
 pub mod remarks;
 pub mod scripts;
 pub mod streams;
-pub mod summary;
 pub mod texts;

@@ -72,7 +72,7 @@ pub fn timing_of<C: Clock>(
     Ok(Some(Timing::of(nanoseconds_of(taken), trips)))
 }
 
-/// Returns the five lines of `--time`.
+/// Returns the five lines of `--time`, with their units.
 pub fn timing_text_of(alloc: Global, timing: &Timing) -> Result<String, AllocError> {
     let (seconds, rest) = (timing.run / 1_000_000_000, timing.run % 1_000_000_000);
     let micros = rest / 1_000;
@@ -83,7 +83,12 @@ pub fn timing_text_of(alloc: Global, timing: &Timing) -> Result<String, AllocErr
         ninety_ninth,
         ..
     } = *timing;
-    format!(in alloc;
-        "seconds {seconds}.{micros:06}\nrate {rate}\nleast {least}\nmedian {median}\nninety-ninth {ninety_ninth}\n"
-    )
+    let mut text = format!(in alloc;
+        "seconds {seconds}.{micros:06}\nrate {rate} round trips a second\n"
+    )?;
+    write!(
+        text,
+        "least {least} ns\nmedian {median} ns\nninety-ninth {ninety_ninth} ns\n"
+    )?;
+    Ok(text)
 }
