@@ -2,7 +2,7 @@
 //! consistent. A comment at each says which weaker order would be enough.
 
 ghost use Rattle.std.specs.Prelude.{◌≡◌, ◌<◌, ◌++◌, [], ◌∷◌, true, false, ℕ, List};
-ghost use Rattle.std.specs.Prelude.{IfSome, MatchBool, MatchOption};
+ghost use Rattle.std.specs.Prelude.{IfSome, MatchBool, MatchOption, None, is_some};
 ghost use Rattle.std.specs.Bool.{OnTrue};
 ghost use Rattle.qhandoff.specs.Rule.{line};
 ghost use Rattle.qhandoff.specs.Steps.{opened_kernel_view, cancelled_kernel_view, put_kernel_view, IsBusy};
@@ -100,6 +100,18 @@ impl<T> ThreadSeat<T> {
         self.thread
     }
 
+    /// Returns whether the thread's cell has a completion, which `poll` takes then. It never waits. Contracts
+    /// don't see the result.
+    #[inline(always)]
+    pub fn has_completion<O>(&self, cells: &Cells<T, O>) -> bool
+    where
+        T: Delivered<O>,
+        requires { IsThreadOf cells.now self.now }
+    {
+        // This is SeqCst, as the load of `poll`.
+        cells.table.shared.peek(word_of(self.thread)) == FULL
+    }
+
     /// Takes the completion out of the thread's cell, or returns `None` if there is none. Tries once and
     /// never waits.
     pub fn poll<O>(&mut self, cells: &Cells<T, O>) -> Option<T>
@@ -113,20 +125,44 @@ impl<T> ThreadSeat<T> {
         ensures allowed { IfSome result
             (λ x. T.may_be_put (origin_of cells.now) (thread_of self.old) (taken self.new)) }
     {
-        self.poll_told::<O, Brand>(cells)
+        let mut place = None;
+        self.take_into(cells, &mut place);
+        place
     }
 
-    /// Does the same as `poll`, and is told the condition that W names.
-    fn poll_told<O, W: Told<T>>(&mut self, cells: &Cells<T, O>) -> Option<T>
+    /// Takes the completion out of the thread's cell and puts it into an empty place. Returns whether there
+    /// was one. Tries once and never waits. This is `poll` without the copies of an `Option` that is returned.
+    #[inline(always)]
+    pub fn take_into<O>(&mut self, cells: &Cells<T, O>, place: &mut Option<T>) -> bool
     where
         T: Delivered<O>,
         requires cells { IsThreadOf cells.now self.old }
+        requires place { place.old ≡ None }
+        ensures cells { thread_id self.new ≡ thread_id self.old }
+        ensures thread { thread_of self.new ≡ thread_of self.old }
+        ensures found { result ≡ is_some place.new }
+        ensures taken { MatchOption place.new (taken self.new ≡ taken self.old)
+            (λ x. taken self.new ≡ taken self.old ++ x ∷ []) }
+        ensures allowed { IfSome place.new
+            (λ x. T.may_be_put (origin_of cells.now) (thread_of self.old) (taken self.new)) }
+    {
+        self.take_told::<O, Brand>(cells, place)
+    }
+
+    /// Does the same as `take_into`, and is told the condition that W names.
+    #[inline(always)]
+    fn take_told<O, W: Told<T>>(&mut self, cells: &Cells<T, O>, place: &mut Option<T>) -> bool
+    where
+        T: Delivered<O>,
+        requires cells { IsThreadOf cells.now self.old }
+        requires place { place.old ≡ None }
         requires told { (t : ℕ) (xs : List T) → T.may_be_put (origin_of cells.now) t xs → W.told t xs }
         ensures cells { thread_id self.new ≡ thread_id self.old }
         ensures thread { thread_of self.new ≡ thread_of self.old }
-        ensures taken { MatchOption result (taken self.new ≡ taken self.old)
+        ensures found { result ≡ is_some place.new }
+        ensures taken { MatchOption place.new (taken self.new ≡ taken self.old)
             (λ x. taken self.new ≡ taken self.old ++ x ∷ []) }
-        ensures told { IfSome result (λ x. W.told (thread_of self.old) (taken self.new)) }
+        ensures told { IfSome place.new (λ x. W.told (thread_of self.old) (taken self.new)) }
     {
         let shared = &cells.table.shared;
         let thread = self.thread;
@@ -134,14 +170,14 @@ impl<T> ThreadSeat<T> {
         // This is SeqCst. Acquire is enough: it synchronizes with the release of `EndPut`, so it sees the
         // whole completion.
         if shared.load::<Take<W>>(&mut self.seat, word) != FULL {
-            return None;
+            return false;
         }
         // This isn't atomic: no other token touches the slot of a full cell, so this is a plain read and a
         // plain write.
-        let completion = shared.exchange(&mut self.seat, thread, None);
+        *place = shared.exchange(&mut self.seat, thread, None);
         // This is SeqCst. Release is enough: a token that loads 0 with Acquire sees the slot as it is left
         // here.
         shared.store::<GiveBack>(&mut self.seat, word, IDLE);
-        completion
+        true
     }
 }
