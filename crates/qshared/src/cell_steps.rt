@@ -29,7 +29,28 @@ fn try_open(seat: &mut KernelSeat<Delivery>, cells: &Cells<Delivery, Origin>, ce
 
 /// Opens a cell, and waits while the cell isn't idle. A thread without a pending call took all its
 /// completions, so its cell is idle at once.
+#[inline(always)]
 pub(crate) fn open<R: Wait>(
+    seat: &mut KernelSeat<Delivery>,
+    cells: &Cells<Delivery, Origin>,
+    cell: usize,
+    rt: &R,
+)
+    requires cells { kernel_id seat.old ≡ cells_id cells.now }
+    requires cell { cell < count cells.now }
+    ensures cells { kernel_id seat.new ≡ kernel_id seat.old }
+    ensures kernel_view { kernel_view seat.new ≡ opened_kernel_view (kernel_view seat.old) cell }
+    ensures closed { (line (kernel_view seat.old) cell).opened ≡ false }
+{
+    if !try_open(seat, cells, cell) {
+        open_later(seat, cells, cell, rt);
+    }
+}
+
+/// Opens a cell that wasn't idle, as soon as it is idle.
+#[cold]
+#[inline(never)]
+fn open_later<R: Wait>(
     seat: &mut KernelSeat<Delivery>,
     cells: &Cells<Delivery, Origin>,
     cell: usize,
