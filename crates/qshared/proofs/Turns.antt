@@ -1,7 +1,7 @@
 -- Completions that came in the calls' own events and later completions, in the order of the calls.
 use Rattle.qshared.proofs.Common.{◌≡◌, ℕ, zero, suc, ◌+◌, ◌-◌, ◌<◌, ◌≤◌, ◌⊎◌, List, [], ◌∷◌, ◌++◌, length}
 use Rattle.qshared.proofs.Common.{length-append, take, drop, refl, ap, sym, subst, ◌∙◌, cond, Bool, true, false, eqb}
-use Rattle.qshared.proofs.Common.{inl, inr, arith, append-nil, append_assoc, None, Option, Some, is_none, MatchOption}
+use Rattle.qshared.proofs.Common.{inl, inr, arith, append-nil, append_assoc, None, Option, Some, MatchOption}
 use Rattle.qshared.proofs.Common.{AllByRecursion, all_more, list_any, take-append-drop, drop-append_seam}
 use Rattle.qshared.proofs.Common.{cases_Bool, eqb-true}
 use Rattle.qshared.proofs.Common.{eq-eqb, true≢false, Completion, gets, AreApart, Extends, Call, IsSince, WaitedBefore}
@@ -241,20 +241,6 @@ pub takes : (once : List (List Completion)) (before after : List Completion) (r 
 takes once before after None old new is p l = ap (in_turn once) is
 takes once before after (Some x) old new is p l = ap (in_turn once) is
     ∙ (collects once before x (subst (λ b. AreLater b once before) p.0 l)).1
-
-pub takes_again : (once : List (List Completion)) (before between after : List Completion) (r s : Option Completion)
-    (old middle new : Bool) → is_none r ≡ true
-    → Takes r before between → MatchOption r (middle ≡ old) (λ x. (old ≡ true) × (middle ≡ false))
-    → Takes s between after → MatchOption s (new ≡ middle) (λ x. (middle ≡ true) × (new ≡ false))
-    → AreLater old once before → Takes s (in_turn once before) (in_turn once after)
-takes_again once before between after (Some x) s old middle new none a p b q l = absurd (true≢false (sym none))
-takes_again once before between after None s old middle new none a p b q l =
-    takes once before after s old new (subst (λ xs. Takes s xs after) a b)
-    (subst (λ m. MatchOption s (new ≡ m) (λ x. (m ≡ true) × (new ≡ false))) p q) l
-
-pub takes_some : (before after : List Completion) (r : Option Completion) (x : Completion) → r ≡ Some x
-    → Takes r before after → after ≡ before ++ x ∷ []
-takes_some before after r x is t = subst (λ o. Takes o before after) is t
 
 -- the completions that a port took and the completions that are left in its cell are all completions
 pub left_over : (once : List (List Completion)) (took left later : List Completion) (pending blocked : Bool)

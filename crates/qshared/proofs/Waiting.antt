@@ -1,7 +1,7 @@
 -- The newest call of a thread, and the completion that the thread waits for.
 use Rattle.qshared.proofs.Common.{◌≡◌, ℕ, ◌+◌, ◌≤◌, ◌⊎◌, List, [], ◌∷◌, ◌++◌, length, length-append, refl}
 use Rattle.qshared.proofs.Common.{ap, sym, subst, ◌∙◌, Bool, true, false, eqb, inl, inr, arith, append-nil, None}
-use Rattle.qshared.proofs.Common.{Option, Some, MatchOption, is_none, AllByRecursion, cases_Bool, eqb-true}
+use Rattle.qshared.proofs.Common.{Option, Some, MatchOption, AllByRecursion, cases_Bool, eqb-true}
 use Rattle.qshared.proofs.Common.{eqb-false, eq-eqb, true≢false, none-some, Completion, Call, Extends, IsSince, Member}
 use Rattle.qshared.proofs.Common.{calls_of, of_thread, at_once, ends_open, waits, AreLater, place, threads_of}
 use Rattle.qshared.proofs.Common.{IsLawful, facts_of, open_call, refusal_of, Answers, completes, Event}
@@ -187,7 +187,7 @@ awaits roster t i asked last after took x at extends calls later a =
 abbrev pub Learns : Option Completion → Prefix → Prefix → Type 0
 Learns r before after = MatchOption r (after ≡ before) (λ x. Extends after.trace before.trace)
 
-pub extends_learned : (r : Option Completion) (before after : Prefix) → Learns r before after
+extends_learned : (r : Option Completion) (before after : Prefix) → Learns r before after
     → Extends after.trace before.trace
 extends_learned None before after l = ([], ap (λ (p : Prefix). p.trace) l)
 extends_learned (Some x) before after l = l
@@ -219,30 +219,3 @@ pub arrives_at : (r : Option Completion) (roster roster' : List Member) (i i' : 
     → IfSome r (λ x. Arrives roster' i' has x after)
 arrives_at r roster roster' i i' has after e is a =
     subst (λ (z : List Member × ℕ). IfSome r (λ x. Arrives z.0 z.1 has x after)) (λ k. (e k, is k)) a
-
--- nothing was taken first, and one completion or none afterwards
-pub learns_again : (r s : Option Completion) (before between after : Prefix) → is_none r ≡ true
-    → Learns r before between → Learns s between after → Learns s before after
-learns_again (Some x) s before between after none a b = absurd (true≢false (sym none))
-learns_again None s before between after none a b = subst (λ p. Learns s p after) a b
-
-pub awaited_again : (roster : List Member) (t i : ℕ) (asked : List Call) (last : Trace)
-    (before between after : Prefix) (r s : Option Completion) (had kept has : List Completion)
-    (old middle new : Bool) → is_none r ≡ true
-    → place (threads_of roster) t ≡ Some i → calls_of last t ≡ asked → IsSince before.trace last
-    → AreLater old (at_once last t) had → Takes r had kept
-    → MatchOption r (middle ≡ old) (λ x. (old ≡ true) × (middle ≡ false)) → Learns r before between → Takes s kept has
-    → MatchOption s (new ≡ middle) (λ x. (middle ≡ true) × (new ≡ false)) → Learns s between after
-    → IfSome s (λ x. Arrives roster i has x after.trace)
-    → IfSome s (λ x. IsAwaited roster t asked last x after.trace)
-awaited_again roster t i asked last before between after (Some x) s had kept has old middle new none at calls since
-    later takes p l takes' p' l' a = absurd (true≢false (sym none))
-awaited_again roster t i asked last before between after None s had kept has old middle new none at calls since
-    later takes p l takes' p' l' a =
-    awaited roster t i asked last between after s kept has middle new at calls
-    (subst (λ (q : Prefix). IsSince q.trace last) (sym l) since)
-    (subst (λ (z : Bool × List Completion). AreLater z.0 (at_once last t) z.1) (λ k. (sym p k, sym takes k)) later)
-    takes' p' l' a
-
-pub awaited_some : (Q : Completion → Type 0) (r : Option Completion) (x : Completion) → r ≡ Some x → IfSome r Q → Q x
-awaited_some Q r x is came = subst (λ o. IfSome o Q) is came

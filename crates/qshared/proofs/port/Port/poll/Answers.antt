@@ -7,18 +7,18 @@ use Rattle.qshared.proofs.port.Port.poll.Goals as goal
 pub returns-clause-taken : goal.returns-clause-taken
 returns-clause-taken g c =
     let self = c.args.self.now in
-    takes (at_once self.last.trace self.thread) _ _ c.take.result _ _ c.take.ensures.taken c.take.ensures.pending
+    takes (at_once self.last.trace self.thread) _ _ c.take.new.place _ _ c.take.ensures.taken c.take.ensures.pending
     self.later
 
 pub returns-clause-came : goal.returns-clause-came
 returns-clause-came g c =
     let self = c.args.self.now in
     awaited g.K.Tie.names.roster self.thread (thread_of self.seat) self.asked.calls self.last.trace self.seen
-    c.take.new.seen c.take.result _ _ _ _ self.thread_is self.calls_are self.since self.later c.take.ensures.taken
+    c.take.new.seen c.take.new.place _ _ _ _ self.thread_is self.calls_are self.since self.later c.take.ensures.taken
     c.take.ensures.pending c.take.ensures.seen
-    (arrives_at c.take.result _ _ _ _ _ _ c.args.shared.now.origin_is.0 refl c.take.ensures.arrives)
+    (arrives_at c.take.new.place _ _ _ _ _ _ c.args.shared.now.origin_is.0 refl c.take.ensures.arrives)
 
 pub invariant_of-self-clause-since : goal.invariant_of-self-clause-since
 invariant_of-self-clause-since g c =
     let self = c.args.self.now in
-    since_learned c.take.result self.seen c.take.new.seen self.last.trace c.take.ensures.seen self.since
+    since_learned c.take.new.place self.seen c.take.new.seen self.last.trace c.take.ensures.seen self.since
