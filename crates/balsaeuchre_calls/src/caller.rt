@@ -25,6 +25,20 @@ pub struct Caller<'a, E: Endpoint, R: Wait> {
     pub(crate) alloc: Global,
 }
 
+/// Returns the results of a completion. `waited` says whether its call was blocked before.
+#[inline(always)]
+fn completed(waited: bool, completion: Completion) -> Completed
+    ensures { (result.waited ≡ waited) × (result.mark ≡ completion.mark)
+        × (result.buffer ≡ completion.buffer) }
+{
+    let Completion { mark, buffer, .. } = completion;
+    Completed {
+        waited,
+        mark,
+        buffer,
+    }
+}
+
 impl<'a, E: Endpoint, R: Wait> Caller<'a, E, R> {
     /// Makes a caller with this endpoint.
     pub fn new(endpoint: E, rt: &'a R, alloc: Global) -> Caller<'a, E, R>
@@ -98,23 +112,18 @@ impl<'a, E: Endpoint, R: Wait> Caller<'a, E, R> {
 
     /// Returns the completion of a call with this outcome. If the call is blocked, it waits for the
     /// completion.
+    #[inline(always)]
     fn completed_of(&mut self, called: Called) -> Result<Completed, CallError>
         requires { pends called false ≡ true → (E.history self.old.endpoint).pending ≡ true }
         ensures leads { Leads called (E.history self.old.endpoint) (E.history self.new.endpoint) result }
         ensures waits { WaitsFor (E.waited self.old.endpoint) called (E.history self.old.endpoint).taken
             (E.history self.new.endpoint).taken (E.seen self.old.endpoint) (E.seen self.new.endpoint) }
     {
-        let (waited, completion) = match called {
-            Called::Done(completion) => (false, completion),
-            Called::Blocked => (true, self.endpoint.wait(self.rt)),
-            Called::Refused(errno, _) => return Err(refusal(errno)),
-        };
-        let Completion { mark, buffer, .. } = completion;
-        Ok(Completed {
-            waited,
-            mark,
-            buffer,
-        })
+        match called {
+            Called::Done(completion) => Ok(completed(false, completion)),
+            Called::Blocked => Ok(completed(true, self.endpoint.wait(self.rt))),
+            Called::Refused(errno, _) => Err(refusal(errno)),
+        }
     }
 
     /// Makes a call, and waits for its completion.
