@@ -131,7 +131,7 @@ impl<T> ThreadSeat<T> {
     }
 
     /// Takes the completion out of the thread's cell and puts it into an empty place. Returns whether there
-    /// was one. Tries once and never waits. This is `poll` without the copies of an `Option` that is returned.
+    /// was one. Tries once and never waits. This is `poll` without the copies of a returned `Option`.
     #[inline(always)]
     pub fn take_into<O>(&mut self, cells: &Cells<T, O>, place: &mut Option<T>) -> bool
     where
