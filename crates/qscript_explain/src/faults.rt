@@ -121,8 +121,10 @@ pub fn oddities(alloc: Global, text: &[u8]) -> Result<Vec<Remark<'_>>, AllocErro
 fn oddity(alloc: Global, line: &[u8]) -> Result<Option<Explanation<'_>>, AllocError> {
     let tokens = match tokens(alloc, line, 1) {
         Ok(tokens) => tokens,
-        Err(ReadError::Memory) => return Err(AllocError),
-        Err(ReadError::Fault(_fault)) => return Ok(None),
+        Err(error) => {
+            let _fault = error.fault()?;
+            return Ok(None);
+        }
     };
     let Some(buffer) = buffer_of(tokens.as_slice()) else {
         return Ok(None);

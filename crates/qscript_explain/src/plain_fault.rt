@@ -10,7 +10,6 @@ use qscript_text::word::Word;
 use std::fmt;
 
 /// Why a part of a line is faulty or odd.
-#[derive(Drop)]
 pub enum PlainFault {
     /// The line has so many bytes.
     LongLine(usize),
@@ -38,6 +37,29 @@ pub enum PlainFault {
     UnknownThread(Word),
     /// A buffer that looks like a length.
     Buffer(DecimalBuffer),
+}
+
+// Each place that drops one calls this. A derived drop would be repeated, and proved, at each of them.
+impl Drop for PlainFault {
+    fn drop(self) {
+        match self {
+            PlainFault::LongLine(_)
+            | PlainFault::Byte(_)
+            | PlainFault::Operand(_)
+            | PlainFault::Comment
+            | PlainFault::NoCaller(_)
+            | PlainFault::MisspeltThread(_)
+            | PlainFault::BadCaller(_)
+            | PlainFault::NoCall
+            | PlainFault::Operands(_, _)
+            | PlainFault::Call(_)
+            | PlainFault::DoubleThread { thread: _, line: _ }
+            | PlainFault::LateThread(_)
+            | PlainFault::TooManyThreads
+            | PlainFault::UnknownThread(_)
+            | PlainFault::Buffer(_) => {}
+        }
+    }
 }
 
 /// A byte that no line may contain.

@@ -30,7 +30,6 @@ pub enum NumberPattern {
 }
 
 /// A pattern of the buffer of a completion.
-#[derive(Drop)]
 pub enum BufferPattern {
     /// Any buffer.
     Any,
@@ -38,9 +37,17 @@ pub enum BufferPattern {
     Begins(Bytes),
 }
 
+// Each place that drops one calls this. A derived drop would be repeated, and proved, at each of them.
+impl Drop for BufferPattern {
+    fn drop(self) {
+        match self {
+            BufferPattern::Any | BufferPattern::Begins(_) => {}
+        }
+    }
+}
+
 /// A pattern of the result of a completed call. A completion matches it if it has this kind, if its first
 /// numbers are these, and if its buffer matches.
-#[derive(Drop)]
 pub struct ResultPattern {
     pub kind: ResultKind,
     /// The numbers that the kind doesn't have: the id of a message; the call that sent a pulse, and the
@@ -50,6 +57,18 @@ pub struct ResultPattern {
     pub numbers: Vec<NumberPattern>,
     /// The pattern of the buffer, if there is one. It matches no call without a buffer.
     pub buffer: Option<BufferPattern>,
+}
+
+// Each place that drops one calls this. A derived drop would be repeated, and proved, at each of them.
+impl Drop for ResultPattern {
+    fn drop(self) {
+        let ResultPattern {
+            kind: _,
+            head: _,
+            numbers: _,
+            buffer: _,
+        } = self;
+    }
 }
 
 impl ResultPattern {
@@ -65,7 +84,6 @@ impl ResultPattern {
 }
 
 /// The expected result of a call.
-#[derive(Drop)]
 pub enum ExpectedCompletion {
     /// The call doesn't complete in its own event.
     Blocked,
@@ -73,13 +91,32 @@ pub enum ExpectedCompletion {
     Completed(ResultPattern),
 }
 
+// Each place that drops one calls this. A derived drop would be repeated, and proved, at each of them.
+impl Drop for ExpectedCompletion {
+    fn drop(self) {
+        match self {
+            ExpectedCompletion::Blocked | ExpectedCompletion::Completed(_) => {}
+        }
+    }
+}
+
 /// The expected result of a call, with its text and its place.
-#[derive(Drop)]
 pub struct Expectation {
     pub completion: ExpectedCompletion,
     /// The result as written.
     pub text: Word,
     pub place: Place,
+}
+
+// Each place that drops one calls this. A derived drop would be repeated, and proved, at each of them.
+impl Drop for Expectation {
+    fn drop(self) {
+        let Expectation {
+            completion: _,
+            text: _,
+            place: _,
+        } = self;
+    }
 }
 
 /// The expected result of another call, which the call of the line completes.
@@ -92,7 +129,6 @@ pub struct Follower {
 }
 
 /// The expectations of the line of a call.
-#[derive(Drop)]
 pub struct CallCheck {
     pub kind: CallKind,
     /// The place of the word that names the call.
@@ -103,8 +139,19 @@ pub struct CallCheck {
     pub followers: Vec<Follower>,
 }
 
+// Each place that drops one calls this. A derived drop would be repeated, and proved, at each of them.
+impl Drop for CallCheck {
+    fn drop(self) {
+        let CallCheck {
+            kind: _,
+            place: _,
+            own: _,
+            followers: _,
+        } = self;
+    }
+}
+
 /// A line with the expected state of a thread.
-#[derive(Drop)]
 pub struct StateCheck {
     /// The number of calls above it.
     pub calls: u64,
@@ -116,4 +163,18 @@ pub struct StateCheck {
     /// The text of the line after `is`, as written.
     pub text: Word,
     pub place: Place,
+}
+
+// Each place that drops one calls this. A derived drop would be repeated, and proved, at each of them.
+impl Drop for StateCheck {
+    fn drop(self) {
+        let StateCheck {
+            calls: _,
+            thread: _,
+            state: _,
+            channel: _,
+            text: _,
+            place: _,
+        } = self;
+    }
 }

@@ -19,7 +19,6 @@ use std::fmt;
 pub type NamesRead<T> = Result<T, ReadError<NamesFault>>;
 
 /// The kind of a fault of a script with names, or of a difference of its run from its expectations.
-#[derive(Drop)]
 pub enum NamesFault {
     Text(TextFault),
     /// A part of a line that isn't what its place expects.
@@ -50,8 +49,32 @@ pub enum NamesFault {
     Difference(Difference),
 }
 
+// Each place that drops one calls this. A derived drop would be repeated, and proved, at each of them.
+impl Drop for NamesFault {
+    fn drop(self) {
+        match self {
+            NamesFault::Text(_)
+            | NamesFault::Found(_, _)
+            | NamesFault::Comment
+            | NamesFault::LateThread
+            | NamesFault::NamelessThread
+            | NamesFault::ThreadWords(_)
+            | NamesFault::Missing(_)
+            | NamesFault::NoCaller(_)
+            | NamesFault::Operands(_, _)
+            | NamesFault::Call(_)
+            | NamesFault::Completion(_)
+            | NamesFault::Error(_, _)
+            | NamesFault::Flag(_, _)
+            | NamesFault::Name(_)
+            | NamesFault::Plain(_)
+            | NamesFault::Script(_)
+            | NamesFault::Difference(_) => {}
+        }
+    }
+}
+
 /// The expected part of a line.
-#[derive(Drop)]
 pub enum NamesExpected {
     CallName,
     /// `thread`, which is misspelt.
@@ -82,6 +105,30 @@ pub enum NamesExpected {
     PulseContent,
 }
 
+// Each place that drops one calls this. A derived drop would be repeated, and proved, at each of them.
+impl Drop for NamesExpected {
+    fn drop(self) {
+        match self {
+            NamesExpected::CallName
+            | NamesExpected::Thread
+            | NamesExpected::Definition
+            | NamesExpected::Arrow
+            | NamesExpected::Operand(_)
+            | NamesExpected::Bytes(_)
+            | NamesExpected::Id(_)
+            | NamesExpected::Process
+            | NamesExpected::State
+            | NamesExpected::OnChannel
+            | NamesExpected::NoChannel
+            | NamesExpected::Number(_)
+            | NamesExpected::CompletionBytes
+            | NamesExpected::CompletionEnd
+            | NamesExpected::CompletionState
+            | NamesExpected::PulseContent => {}
+        }
+    }
+}
+
 /// A part of a line that is missing.
 #[derive(Clone, Copy)]
 pub enum MissingPart {
@@ -98,7 +145,6 @@ pub enum MissingPart {
 }
 
 /// The fault of a name.
-#[derive(Drop)]
 pub enum FaultyName {
     /// No line above defines it. A line below may define it, or another name may be meant.
     Undefined {
@@ -117,6 +163,23 @@ pub enum FaultyName {
     },
     /// A process is given by its number, but has this name.
     ProcessNumber(Word),
+}
+
+// Each place that drops one calls this. A derived drop would be repeated, and proved, at each of them.
+impl Drop for FaultyName {
+    fn drop(self) {
+        match self {
+            FaultyName::Undefined {
+                name: _,
+                below: _,
+                near: _,
+            }
+            | FaultyName::UndefinedProcess(_)
+            | FaultyName::OtherKind(_)
+            | FaultyName::Twice { name: _, line: _ }
+            | FaultyName::ProcessNumber(_) => {}
+        }
+    }
 }
 
 /// A name of another kind than its use needs.
@@ -142,7 +205,6 @@ pub enum NameUsage {
 }
 
 /// A difference of a run from an expectation.
-#[derive(Drop)]
 pub enum Difference {
     /// A call completed otherwise than expected.
     Completion {
@@ -172,6 +234,32 @@ pub enum Difference {
     },
 }
 
+// Each place that drops one calls this. A derived drop would be repeated, and proved, at each of them.
+impl Drop for Difference {
+    fn drop(self) {
+        match self {
+            Difference::Completion {
+                expected: _,
+                found: _,
+            }
+            | Difference::Failure { call: _, found: _ }
+            | Difference::Elsewhere {
+                name: _,
+                expected: _,
+                found: _,
+            }
+            | Difference::Open {
+                expected: _,
+                state: _,
+            }
+            | Difference::State {
+                expected: _,
+                found: _,
+            } => {}
+        }
+    }
+}
+
 /// The completion of a call, in the notation of expectations.
 #[derive(Drop)]
 pub struct FoundEnd {
@@ -192,13 +280,7 @@ impl FaultyName {
 
 /// Returns the error of a line's parts as one of a script with names.
 pub fn of_text(error: ReadError<TextFault>) -> ReadError<NamesFault> {
-    match error {
-        ReadError::Memory => ReadError::Memory,
-        ReadError::Fault(Fault { place, kind, byte }) => {
-            let kind = NamesFault::Text(kind);
-            ReadError::Fault(Fault { place, kind, byte })
-        }
-    }
+    error.map(NamesFault::Text)
 }
 
 /// Returns the fault of a part that isn't what its place expects.

@@ -20,7 +20,6 @@ use std::marker::Model;
 
 /// The definitions of some lines: how many threads and calls they have, the names of their processes, and the
 /// labels of their names.
-#[derive(Drop)]
 pub struct Scope {
     threads: u64,
     calls: u64,
@@ -28,6 +27,19 @@ pub struct Scope {
     labels: Vec<Label>,
     /// The index of the last label with each name.
     places: HashMap<String, usize>,
+}
+
+// Each place that drops one calls this. A derived drop would be repeated, and proved, at each of them.
+impl Drop for Scope {
+    fn drop(self) {
+        let Scope {
+            threads: _,
+            calls: _,
+            processes: _,
+            labels: _,
+            places: _,
+        } = self;
+    }
 }
 
 impl Model for Scope {

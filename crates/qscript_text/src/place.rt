@@ -25,12 +25,22 @@ impl fmt::Display for Place {
 }
 
 /// A fault with its place. Each language has its own kinds of faults.
-#[derive(Drop)]
 pub struct Fault<K> {
     pub place: Place,
     pub kind: K,
     /// The hint about the byte at the place, if no line may contain this byte.
     pub byte: Option<ByteHint>,
+}
+
+// Each place that drops one calls this. A derived drop would be repeated, and proved, at each of them.
+impl<K: Drop> Drop for Fault<K> {
+    fn drop(self) {
+        let Fault {
+            place: _,
+            kind: _,
+            byte: _,
+        } = self;
+    }
 }
 
 impl<K> Fault<K> {
@@ -54,6 +64,18 @@ impl<K> Fault<K> {
         self
     }
 
+    /// Returns the fault with the kind that `of` makes of its kind.
+    pub fn map<J, F: FnOnce(K) -> J>(self, of: F) -> Fault<J>
+        requires { F.IsAlwaysCallable of }
+    {
+        let Fault { place, kind, byte } = self;
+        Fault {
+            place,
+            kind: of(kind),
+            byte,
+        }
+    }
+
     /// Returns the words of the hint about the byte at the place. They come after the words of the kind, and
     /// are empty if there is no hint.
     pub fn hint(&self) -> &'static str {
@@ -70,12 +92,20 @@ impl<K: fmt::Display> fmt::Display for Fault<K> {
 }
 
 /// The reason why a line can't be read.
-#[derive(Drop)]
 pub enum ReadError<K> {
     /// There is no memory for the content of the line.
     Memory,
     /// The line has this fault.
     Fault(Fault<K>),
+}
+
+// Each place that drops one calls this. A derived drop would be repeated, and proved, at each of them.
+impl<K: Drop> Drop for ReadError<K> {
+    fn drop(self) {
+        match self {
+            ReadError::Memory | ReadError::Fault(_) => {}
+        }
+    }
 }
 
 impl<K> From<AllocError> for ReadError<K> {
@@ -91,6 +121,35 @@ impl<K, T: Drop> From<AllocFailed<T>> for ReadError<K> {
 
     fn from(_e: AllocFailed<T>) -> ReadError<K> {
         ReadError::Memory
+    }
+}
+
+impl<K> ReadError<K> {
+    /// Returns the fault, or an error if there was no memory.
+    pub fn fault(self) -> Result<Fault<K>, AllocError> {
+        match self {
+            ReadError::Memory => Err(AllocError),
+            ReadError::Fault(fault) => Ok(fault),
+        }
+    }
+
+    /// Returns the error with the kind of fault that `of` makes of its kind.
+    pub fn map<J, F: FnOnce(K) -> J>(self, of: F) -> ReadError<J>
+        requires { F.IsAlwaysCallable of }
+    {
+        match self {
+            ReadError::Memory => ReadError::Memory,
+            ReadError::Fault(fault) => ReadError::Fault(fault.map(of)),
+        }
+    }
+
+    /// Returns the error with the hint about the byte at its place in this line, if no line may contain the
+    /// byte.
+    pub fn with_byte_hint(self, line: &[u8]) -> ReadError<K> {
+        match self {
+            ReadError::Memory => ReadError::Memory,
+            ReadError::Fault(fault) => ReadError::Fault(fault.with_byte_hint(line)),
+        }
     }
 }
 

@@ -19,7 +19,6 @@ use std::alloc::{AllocError, Global};
 use std::mem;
 
 /// The comparison of a run with the expectations of its script, up to the latest call.
-#[derive(Drop)]
 pub struct ExpectationCheck {
     alloc: Global,
     /// The definitions of all lines, or of the lines so far.
@@ -35,6 +34,22 @@ pub struct ExpectationCheck {
     /// call whose line has the expectation, and its index among the followers of that line.
     waiting: Vec<(u64, usize)>,
     faults: Vec<Fault<NamesFault>>,
+}
+
+// Each place that drops one calls this. A derived drop would be repeated, and proved, at each of them.
+impl Drop for ExpectationCheck {
+    fn drop(self) {
+        let ExpectationCheck {
+            alloc: _,
+            scope: _,
+            calls: _,
+            states: _,
+            compared: _,
+            ends: _,
+            waiting: _,
+            faults: _,
+        } = self;
+    }
 }
 
 /// Returns the number that an operand means, or 0 if it isn't a number.

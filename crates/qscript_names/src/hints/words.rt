@@ -48,10 +48,16 @@ impl fmt::Display for OperandHint {
 }
 
 /// An operand of this sort, which a word can't be read as.
-#[derive(Drop)]
 pub struct ExpectedOperand {
     pub sort: OperandKind,
     pub hint: Option<OperandHint>,
+}
+
+// Each place that drops one calls this. A derived drop would be repeated, and proved, at each of them.
+impl Drop for ExpectedOperand {
+    fn drop(self) {
+        let ExpectedOperand { sort: _, hint: _ } = self;
+    }
 }
 
 impl fmt::Display for ExpectedOperand {
@@ -130,11 +136,17 @@ pub enum MeantCall {
 }
 
 /// A word that names no call.
-#[derive(Drop)]
 pub struct UnknownCall {
     /// Its first bytes.
     pub word: Word,
     pub meant: MeantCall,
+}
+
+// Each place that drops one calls this. A derived drop would be repeated, and proved, at each of them.
+impl Drop for UnknownCall {
+    fn drop(self) {
+        let UnknownCall { word: _, meant: _ } = self;
+    }
 }
 
 impl fmt::Display for UnknownCall {

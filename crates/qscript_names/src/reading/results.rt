@@ -41,10 +41,12 @@ fn named(alloc: Global, kind: LineKind, token: &Token<'_>) -> NamesRead<NumberPa
     if token.bytes.first().is_some_and(|b| b.is_ascii_digit()) {
         return number(alloc, token);
     }
-    match id(alloc, kind, Slot::Offset, token)? {
-        Operand::Name(mention) => Ok(NumberPattern::Named(mention)),
-        _ => Ok(NumberPattern::Any),
-    }
+    let operand = id(alloc, kind, Slot::Offset, token)?;
+    Ok(
+        operand
+            .into_name()
+            .map_or(NumberPattern::Any, NumberPattern::Named),
+    )
 }
 
 /// Reads the name or the number of a process.
