@@ -28,11 +28,11 @@ static void make(neutrino *k, struct place *p, struct call *c) {
     uint64_t ended = 0, own = bit_of(k, p);
     start_timeout(p, c);
     if ((p->error = note_call(k, p, c))) return;
-    lock(k);
+    take(k);
     struct event e = event_of(k, p);
     int error = make_under_lock(k, p, c, &e, &ended);
     uint64_t asleep = tell(k, ended & ~own);
-    unlock(k);
+    release(k);
     wake(k, asleep);
     if (error) p->error = error;
     if (error || ended & own) return;

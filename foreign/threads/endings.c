@@ -4,7 +4,7 @@
  * and its buffers still exist.
  */
 /* Shows a call to the hook, with a copy of its event's rows. */
-static void show_call(neutrino *k, const struct call *c, size_t room_len, const struct event *e) {
+RARE void show_call(neutrino *k, const struct call *c, size_t room_len, const struct event *e) {
     memcpy(k->seen.rows, e->rows, e->done.endings * sizeof *e->rows);
     k->seen.done = e->done;
     k->seen.bytes = e->bytes;
@@ -13,7 +13,7 @@ static void show_call(neutrino *k, const struct call *c, size_t room_len, const 
 }
 
 /* Makes a call in the library, with room_len bytes of its buffer. */
-static uint32_t make_in_library(neutrino *k, const struct call *c, size_t room_len, struct event *e) {
+INLINED uint32_t make_in_library(neutrino *k, const struct call *c, size_t room_len, struct event *e) {
     uint8_t none[3] = {0}; /* pointers whose length is 0 point here */
     uint32_t error = balsaeuchre_make_call(&k->library, &c->request, c->sent_len ? c->sent : none, c->sent_len,
                                            room_len ? c->room : none + 1, room_len, e->rows, BALSAEUCHRE_ROWS,
@@ -146,7 +146,7 @@ static void deliver(neutrino *k, struct place *p, const balsaeuchre_ending *row,
 
 /* Delivers the completions of an event, except for clocks. Returns a bit for each
  * thread whose call is completed. */
-static uint64_t deliver_rows(neutrino *k, const struct event *e) {
+INLINED uint64_t deliver_rows(neutrino *k, const struct event *e) {
     uint64_t ended = 0;
     for (size_t at = 0; at < e->done.endings; at++) {
         int place = k->place_of[e->rows[at].thread];

@@ -26,6 +26,10 @@
 #include <string.h>
 #include <unistd.h>
 
+/* RARE: a function that few calls need. INLINED: a function that becomes a part of its callers. */
+#define RARE static __attribute__((cold, noinline))
+#define INLINED static inline __attribute__((always_inline))
+
 enum { PLACES = BALSAEUCHRE_ROWS, CHANNEL_BITS = 6, CONNECTION_BITS = 10, MESSAGE_BITS = 6 };
 enum { SCOID = 0x40000000 }; /* a server connection id is SCOID plus the client's process */
 enum { FRONT = 1024 };       /* bytes of a receive buffer that the kernel gets; a Read brings the rest */

@@ -29,7 +29,7 @@ static int number_at(const struct names *names, uint64_t serial) {
 
 /* Makes the name of a new id. There is a free place, because the kernel has no more ids at a time
  * than the table has places. */
-static int new_name(neutrino *k, enum table table, uint64_t id, uint8_t owner) {
+INLINED int new_name(neutrino *k, enum table table, uint64_t id, uint8_t owner) {
     struct names *names = &k->tables[table];
     for (int looked = 0; looked < 1 << names->bits; looked++) {
         int number = number_at(names, k->next[table]++);

@@ -24,8 +24,8 @@ static void pause_briefly(void) {
 #endif
 }
 
-static void lock(neutrino *k) {
-    inside++;
+/* Takes the lock, in a call that inside counts already. */
+static void take(neutrino *k) {
     for (int looks = 0; looks < LOCK_LOOKS; looks++) {
         if (pthread_mutex_trylock(&k->lock) == 0) return;
         for (int pauses = 0; pauses < 8; pauses++) pause_briefly();
@@ -33,8 +33,15 @@ static void lock(neutrino *k) {
     pthread_mutex_lock(&k->lock);
 }
 
+static void release(neutrino *k) { pthread_mutex_unlock(&k->lock); }
+
+static void lock(neutrino *k) {
+    inside++;
+    take(k);
+}
+
 static void unlock(neutrino *k) {
-    pthread_mutex_unlock(&k->lock);
+    release(k);
     inside--;
 }
 
@@ -71,9 +78,10 @@ enum woken { HAS_ENDED, TIMED_OUT, WAS_INTERRUPTED };
 /* Waits until the call is completed or interrupted, or until a time that is not 0. An interruption changes
  * the word, which futex compares. So no interruption is lost, wherever in this function its handler runs. */
 static enum woken sleep_until(struct place *p, uint64_t until) {
-    struct timespec end = {(time_t)(until / 1000000000u), (long)(until % 1000000000u)};
+    struct timespec end = {0, 0};
     uint32_t open = OPEN;
     if (look(p)) return HAS_ENDED;
+    if (until) end = (struct timespec){(time_t)(until / 1000000000u), (long)(until % 1000000000u)};
     atomic_compare_exchange_strong(&p->word, &open, ASLEEP);
     while (!is_ended(p)) {
         if (atomic_load(&p->word) == INTERRUPTED) return WAS_INTERRUPTED;

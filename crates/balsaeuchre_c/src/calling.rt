@@ -15,6 +15,7 @@ const ROW_LIMIT: usize = 64;
 
 /// Makes the call of a request, writes the completions of its event, and returns their counts. Fails with
 /// `Inval` if there are fewer than `ROW_LIMIT` rows, or like `Session::make`.
+#[inline(always)]
 pub fn make_call(
     session: &mut Session,
     request: &CallRequest,

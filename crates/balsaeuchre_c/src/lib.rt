@@ -21,6 +21,7 @@ mod roster;
 mod row;
 mod sending;
 mod session;
+mod spares;
 mod write_rows;
 
 use error::errno_number;
@@ -70,6 +71,7 @@ pub extern "C" fn balsaeuchre_free(kernel: Handle) {
 /// Makes one call. Returns 0, and writes the completions of its event, by rising thread number. On an error
 /// it returns the error's number, and changes and writes nothing.
 #[unsafe(no_mangle)]
+#[inline(always)]
 pub extern "C" fn balsaeuchre_make_call(
     kernel: &mut Handle,
     request: &CallRequest,

@@ -5,6 +5,7 @@ ghost use Rattle.balsaeuchre_c.specs.Opening.{IsNewOf, NewError};
 
 use crate::roster::{RosterThread, roster_of};
 use crate::session::Session;
+use crate::spares::Spares;
 use arrayvec::ArrayVec;
 use qbase::errno::Errno;
 use qkernel::kernel::Kernel;
@@ -19,6 +20,7 @@ pub fn new_session(alloc: Global, threads: &[RosterThread]) -> Result<Box<Sessio
     let session = Session {
         kernel,
         completions: ArrayVec::new_in(alloc),
+        spares: Spares::new(alloc)?,
     };
     Box::new(alloc, session).map_err(|_| Errno::NoMemory)
 }

@@ -4,14 +4,15 @@ ghost use Rattle.std.specs.Prelude.{◌≡◌, ℕ, List, Some, IfNone, IfSome, 
 ghost use Rattle.qkernel.specs.LentCall.{call_lent};
 ghost use Rattle.balsaeuchre_c.specs.Requests.{borrows, call_as, IsRefusedAs, operands_as, priority_as};
 
+use crate::spares::Spares;
 use qbase::bytes::Bytes;
 use qbase::errno::Errno;
-use qbase::ids::{ProcessNo, ReceiveId, ThreadNo};
+use qbase::ids::{ChannelId, ConnectionId, ProcessNo, ReceiveId, ThreadNo};
 use qbase::priority::Priority;
 use qkernel::call::Call;
 use qkernel::lent_call::LentCall;
 use qmodel::kind::CallKind;
-use qmodel::operands::{OperandKind, Operands};
+use qmodel::operands::Operands;
 use std::alloc::Global;
 
 /// A call of the kind `kind`, which reads only the fields that it needs. The call's bytes and its buffer are
@@ -49,15 +50,9 @@ impl CallRequest {
     fn priority(&self, kind: CallKind) -> Option<Priority>
         ensures { result ≡ priority_as kind self.now }
     {
-        if kind
-            .form()
-            .operands
-            .iter()
-            .any(|sort| matches!(sort, OperandKind::Priority))
-        {
-            Priority::new(self.priority)
-        } else {
-            Some(Priority::lowest())
+        match kind {
+            CallKind::Pulse | CallKind::PrioritySet => Priority::new(self.priority),
+            _ => Some(Priority::lowest()),
         }
     }
 
@@ -101,9 +96,9 @@ impl CallRequest {
         }
     }
 
-    /// Returns the call of the request, with copies of the bytes and the buffer. Fails with `Inval` if the
-    /// kind has a priority and the field is 0, or with `NoMemory`.
-    pub fn call_as(
+    /// Returns the call of a kind that isn't a Send or a Receive, like `call_as`.
+    #[inline(never)]
+    fn other_call(
         &self,
         kind: CallKind,
         alloc: Global,
@@ -118,5 +113,35 @@ impl CallRequest {
         let bytes = Bytes::copied(alloc, sent)?;
         let buffer = Bytes::copied(alloc, room)?;
         Ok(Call::of(kind, operands, bytes, buffer))
+    }
+
+    /// Returns the call of the request, with copies of the bytes and the buffer. Fails with `Inval` if the
+    /// kind has a priority and the field is 0, or with `NoMemory`.
+    #[inline(always)]
+    pub fn call_as(
+        &self,
+        kind: CallKind,
+        alloc: Global,
+        spares: &mut Spares,
+        sent: &[u8],
+        room: &[u8],
+    ) -> Result<Call, Errno>
+        ensures { MatchResult result
+            (λ call. call_as kind self.now sent.now room.now ≡ Some call)
+            (IsRefusedAs (call_as kind self.now sent.now room.now)) }
+    {
+        match kind {
+            CallKind::Send => Ok(Call::Send {
+                coid: ConnectionId(self.id),
+                message: spares.copied(alloc, sent)?,
+                reply_buffer: spares.copied(alloc, room)?,
+            }),
+            CallKind::Receive => Ok(Call::Receive {
+                chid: ChannelId(self.id),
+                buffer: spares.copied(alloc, room)?,
+            }),
+            // The call is moved, so that the others needn't be written to memory.
+            _ => Ok(self.other_call(kind, alloc, sent, room)?),
+        }
     }
 }

@@ -1,9 +1,8 @@
 //! A completion in the form that C gets: only numbers.
 
 ghost use Rattle.std.specs.Prelude.{◌≡◌, ℕ, length, Some};
-ghost use Rattle.qkernel.specs.Matching.{InfoAtTraces};
 ghost use Rattle.qmodel.specs.declared.call.Completion.{Completion};
-ghost use Rattle.balsaeuchre_c.specs.Rows.{mark_of, told_bytes, Fills, IsOf, Tells};
+ghost use Rattle.balsaeuchre_c.specs.Rows.{mark_of, told_bytes, Fills, IsOf, Tells, TellsMessage};
 
 use crate::error::errno_number;
 use qbase::errno::Errno;
@@ -13,16 +12,6 @@ use qbase::state::ThreadState;
 use qkernel::call::{Completion, Info, Mark};
 use qkernel::kernel::Kernel;
 use qqueue::item::What;
-
-/// Returns the data of the message, if this result is the receipt of one.
-fn info_beside(kernel: &Kernel, mark: Mark) -> Option<Info>
-    ensures { (rcvid copied : ℕ) → mark ≡ Mark.Message rcvid copied → InfoAtTraces kernel.now rcvid result }
-{
-    match mark {
-        Mark::Message { rcvid, .. } => kernel.message_info(rcvid),
-        _ => None,
-    }
-}
 
 /// The completion of a call. `mark` says which fields are used; the others are 0.
 #[repr(C)]
@@ -71,101 +60,89 @@ pub struct Row {
 }
 
 impl Row {
-    /// Returns the row of a completion without its result. `told_len` bytes of its buffer belong to it. They
-    /// begin at `start` in C's array `bytes`, and `written` of them were written.
-    fn without_mark(completion: &Completion, start: usize, told_len: usize, written: usize) -> Row
+    /// Writes a completion without its result: the fields of the result are 0. `told_len` bytes of its buffer
+    /// belong to it. They begin at `start` in C's array `bytes`, and `written` of them were written.
+    #[inline(always)]
+    fn begin(&mut self, completion: &Completion, start: usize, told_len: usize, written: usize)
         requires { told_len ≡ length (told_bytes completion.now) }
-        ensures { IsOf result completion.now start written }
+        ensures { IsOf self.new completion.now start written }
     {
-        Row {
+        *self = Row {
             call: completion.call,
             thread: completion.thread.0,
             start,
             length: told_len,
             written,
             ..Row::default()
-        }
-    }
-
-    fn errno(self, errno: Errno) -> Row
-        ensures mark { mark_of result ≡ Some (Mark.Failed errno) }
-        ensures same { (completion : Completion) → (start written : ℕ) → IsOf self completion start written
-            → IsOf result completion start written }
-    {
-        Row {
-            mark: 2,
-            errno: errno_number(errno),
-            ..self
-        }
-    }
-
-    fn replied(self, status: i64, copied: usize) -> Row
-        ensures mark { mark_of result ≡ Some (Mark.Replied status copied) }
-        ensures same { (completion : Completion) → (start written : ℕ) → IsOf self completion start written
-            → IsOf result completion start written }
-    {
-        Row {
-            mark: 5,
-            status,
-            count: copied,
-            ..self
-        }
-    }
-
-    fn info(self, info: Info) -> Row
-        ensures mark { mark_of result ≡ Some (Mark.Info info) }
-        ensures same { (completion : Completion) → (start written : ℕ) → IsOf self completion start written
-            → IsOf result completion start written }
-    {
-        Row {
-            mark: 9,
-            process: info.process.0,
-            sender: info.thread.0,
-            priority: info.priority.get(),
-            id: info.connection.0,
-            count: info.msglen,
-            srcmsglen: info.srcmsglen,
-            dstmsglen: info.dstmsglen,
-            ..self
-        }
-    }
-
-    fn pulse(self, item: u64, priority: Priority, what: What) -> Row
-        ensures mark { mark_of result ≡ Some (Mark.Pulse item priority what) }
-        ensures same { (completion : Completion) → (start written : ℕ) → IsOf self completion start written
-            → IsOf result completion start written }
-    {
-        let row = Row {
-            mark: 10,
-            id: item,
-            priority: priority.get(),
-            ..self
         };
+    }
+
+    #[inline(always)]
+    fn set_errno(&mut self, errno: Errno)
+        ensures mark { mark_of self.new ≡ Some (Mark.Failed errno) }
+        ensures same { (completion : Completion) → (start written : ℕ)
+            → IsOf self.old completion start written → IsOf self.new completion start written }
+    {
+        self.mark = 2;
+        self.errno = errno_number(errno);
+    }
+
+    #[inline(always)]
+    fn set_replied(&mut self, status: i64, copied: usize)
+        ensures mark { mark_of self.new ≡ Some (Mark.Replied status copied) }
+        ensures same { (completion : Completion) → (start written : ℕ)
+            → IsOf self.old completion start written → IsOf self.new completion start written }
+    {
+        self.mark = 5;
+        self.status = status;
+        self.count = copied;
+    }
+
+    fn set_info(&mut self, info: &Info)
+        ensures mark { mark_of self.new ≡ Some (Mark.Info info.now) }
+        ensures same { (completion : Completion) → (start written : ℕ)
+            → IsOf self.old completion start written → IsOf self.new completion start written }
+    {
+        self.mark = 9;
+        self.process = info.process.0;
+        self.sender = info.thread.0;
+        self.priority = info.priority.get();
+        self.id = info.connection.0;
+        self.count = info.msglen;
+        self.srcmsglen = info.srcmsglen;
+        self.dstmsglen = info.dstmsglen;
+    }
+
+    fn set_pulse(&mut self, item: u64, priority: Priority, what: &What)
+        ensures mark { mark_of self.new ≡ Some (Mark.Pulse item priority what.now) }
+        ensures same { (completion : Completion) → (start written : ℕ)
+            → IsOf self.old completion start written → IsOf self.new completion start written }
+    {
+        self.mark = 10;
+        self.id = item;
+        self.priority = priority.get();
         match what {
-            What::Message => Row { what: 1, ..row },
-            What::User { code, value } => Row {
-                what: 2,
-                pulse_code: code,
-                value,
-                ..row
-            },
-            What::Unblock(rcvid) => Row {
-                what: 3,
-                rcvid: rcvid.0,
-                ..row
-            },
-            What::Disconnect(process) => Row {
-                what: 4,
-                process: process.0,
-                ..row
-            },
+            What::Message => self.what = 1,
+            What::User { code, value } => {
+                self.what = 2;
+                self.pulse_code = *code;
+                self.value = *value;
+            }
+            What::Unblock(rcvid) => {
+                self.what = 3;
+                self.rcvid = rcvid.0;
+            }
+            What::Disconnect(process) => {
+                self.what = 4;
+                self.process = process.0;
+            }
         }
     }
 
-    fn state(self, state: ThreadState, priority: Priority) -> Row
-        ensures mark { mark_of result ≡ Some (Mark.State state priority) }
-        ensures same { (completion : Completion) → (start written : ℕ) → IsOf self completion start written
-            → IsOf result completion start written }
+    fn set_state(&mut self, state: &ThreadState, priority: Priority)
+        ensures mark { mark_of self.new ≡ Some (Mark.State state.now priority) }
+        ensures same { (completion : Completion) → (start written : ℕ)
+            → IsOf self.old completion start written → IsOf self.new completion start written }
     {
         let (number, chid) = match state {
             ThreadState::Ready => (1, 0),
@@ -173,97 +150,87 @@ impl Row {
             ThreadState::ReceiveBlocked(chid) => (3, chid.0),
             ThreadState::ReplyBlocked(chid) => (4, chid.0),
         };
-        Row {
-            mark: 11,
-            state: number,
-            id: chid,
-            priority: priority.get(),
-            ..self
-        }
+        self.mark = 11;
+        self.state = number;
+        self.id = chid;
+        self.priority = priority.get();
     }
 
-    fn message(self, rcvid: ReceiveId, copied: usize, info: Option<Info>) -> Row
-        ensures mark { mark_of result ≡ Some (Mark.Message rcvid copied) }
-        ensures count { result.count ≡ copied }
-        ensures info { Fills result info }
-        ensures same { (completion : Completion) → (start written : ℕ) → IsOf self completion start written
-            → IsOf result completion start written }
+    /// Writes the receipt of a message, with the data that the kernel has for it.
+    #[inline(always)]
+    fn set_message(&mut self, kernel: &Kernel, rcvid: ReceiveId, copied: usize)
+        ensures mark { mark_of self.new ≡ Some (Mark.Message rcvid copied) }
+        ensures message { TellsMessage self.new kernel.now rcvid copied }
+        ensures same { (completion : Completion) → (start written : ℕ)
+            → IsOf self.old completion start written → IsOf self.new completion start written }
     {
-        let row = Row {
-            mark: 6,
-            rcvid: rcvid.0,
-            count: copied,
-            ..self
-        };
-        match info {
-            None => row,
-            Some(told) => Row {
-                process: told.process.0,
-                sender: told.thread.0,
-                priority: told.priority.get(),
-                id: told.connection.0,
-                srcmsglen: told.srcmsglen,
-                dstmsglen: told.dstmsglen,
-                ..row
-            },
+        self.mark = 6;
+        self.rcvid = rcvid.0;
+        self.count = copied;
+        if let Some(told) = kernel.message_info(rcvid) {
+            self.process = told.process.0;
+            self.sender = told.thread.0;
+            self.priority = told.priority.get();
+            self.id = told.connection.0;
+            self.srcmsglen = told.srcmsglen;
+            self.dstmsglen = told.dstmsglen;
         }
     }
 
-    fn with_mark(self, mark: Mark, info: Option<Info>) -> Row
-        ensures mark { mark_of result ≡ Some mark }
-        ensures message { (rcvid copied : ℕ) → mark ≡ Mark.Message rcvid copied → (result.count ≡ copied)
-            × Fills result info }
-        ensures same { (completion : Completion) → (start written : ℕ) → IsOf self completion start written
-            → IsOf result completion start written }
+    /// Writes the result of a completion of the kernel's last event.
+    #[inline(always)]
+    fn set_mark(&mut self, kernel: &Kernel, mark: &Mark)
+        ensures mark { mark_of self.new ≡ Some mark.now }
+        ensures message { (rcvid copied : ℕ) → mark.now ≡ Mark.Message rcvid copied
+            → TellsMessage self.new kernel.now rcvid copied }
+        ensures same { (completion : Completion) → (start written : ℕ)
+            → IsOf self.old completion start written → IsOf self.new completion start written }
     {
         match mark {
-            Mark::Ok => Row { mark: 1, ..self },
-            Mark::Failed(errno) => self.errno(errno),
-            Mark::Channel(chid) => Row {
-                mark: 3,
-                id: chid.0,
-                ..self
-            },
-            Mark::Connection(coid) => Row {
-                mark: 4,
-                id: coid.0,
-                ..self
-            },
-            Mark::Replied { status, copied } => self.replied(status, copied),
-            Mark::Message { rcvid, copied } => self.message(rcvid, copied, info),
-            Mark::Errored(code) => Row {
-                mark: 7,
-                value: code,
-                ..self
-            },
-            Mark::Count(count) => Row {
-                mark: 8,
-                count,
-                ..self
-            },
-            Mark::Info(info) => self.info(info),
+            Mark::Ok => self.mark = 1,
+            Mark::Failed(errno) => self.set_errno(*errno),
+            Mark::Channel(chid) => {
+                self.mark = 3;
+                self.id = chid.0;
+            }
+            Mark::Connection(coid) => {
+                self.mark = 4;
+                self.id = coid.0;
+            }
+            Mark::Replied { status, copied } => self.set_replied(*status, *copied),
+            Mark::Message { rcvid, copied } => self.set_message(kernel, *rcvid, *copied),
+            Mark::Errored(code) => {
+                self.mark = 7;
+                self.value = *code;
+            }
+            Mark::Count(count) => {
+                self.mark = 8;
+                self.count = *count;
+            }
+            Mark::Info(info) => self.set_info(info),
             Mark::Pulse {
                 item,
                 priority,
                 what,
-            } => self.pulse(item, priority, what),
-            Mark::State { state, priority } => self.state(state, priority),
+            } => self.set_pulse(*item, *priority, what),
+            Mark::State { state, priority } => self.set_state(state, *priority),
         }
     }
 
-    /// Returns the row of a completion of the kernel's last event. `told_len` bytes of its buffer belong to
-    /// it. They begin at `start` in C's array `bytes`, and `written` of them were written.
-    pub fn of(
+    /// Writes a completion of the kernel's last event. `told_len` bytes of its buffer belong to it. They
+    /// begin at `start` in C's array `bytes`, and `written` of them were written.
+    pub fn write(
+        &mut self,
         kernel: &Kernel,
         completion: &Completion,
         start: usize,
         told_len: usize,
         written: usize,
-    ) -> Row
+    )
         requires { told_len ≡ length (told_bytes completion.now) }
-        ensures { Tells result kernel.now completion.now start written }
+        ensures { Tells self.new kernel.now completion.now start written }
     {
-        let info = info_beside(kernel, completion.mark);
-        Row::without_mark(completion, start, told_len, written).with_mark(completion.mark, info)
+        self.begin(completion, start, told_len, written);
+        self.set_mark(kernel, &completion.mark);
     }
 }

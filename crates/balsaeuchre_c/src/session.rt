@@ -12,6 +12,7 @@ ghost use Rattle.balsaeuchre_c.specs.Requests.{IsRefusedAs, call_of};
 
 use crate::kind::kind_of;
 use crate::request::CallRequest;
+use crate::spares::Spares;
 use qbase::errno::Errno;
 use qbase::ids::ThreadNo;
 use qkernel::call::Call;
@@ -20,16 +21,18 @@ use qkernel::kernel::{CALL_LIMIT, Kernel};
 use qkernel::lent_call::LentCall;
 use qkernel::thread_ref::ThreadRef;
 
-/// A kernel, and the completions of its last event.
+/// A kernel, the completions of its last event, and memory for the bytes of its next calls.
 #[derive(Drop)]
 pub struct Session {
     pub kernel: Kernel,
     pub completions: Completions,
+    pub spares: Spares,
 }
 
 impl Session {
     /// Empties the list for the next call of a thread, and returns the thread's index. Fails with `NoThread`
     /// if the thread isn't in the roster, or with `Exhausted` if no more calls can be numbered.
+    #[inline(always)]
     fn begin(&mut self, thread: ThreadNo) -> Result<ThreadRef, Errno>
         ensures seat { IfOk result (λ seat. IsSeatIn self.old.kernel.threads seat) }
         ensures thread { IfOk result (λ seat. seat.thread ≡ thread) }
@@ -46,7 +49,8 @@ impl Session {
         if self.kernel.made() >= CALL_LIMIT {
             return Err(Errno::Exhausted);
         }
-        self.completions.clear();
+        self.spares
+            .keep_all(self.kernel.alloc(), &mut self.completions);
         Ok(seat)
     }
 
@@ -87,6 +91,7 @@ impl Session {
     /// Makes the call of a request. A Reply and a Write borrow their bytes; the other kinds get copies of the
     /// bytes and the buffer. Fails with `Inval` if no kind has the request's number, or if the kind has a
     /// priority and the request's is 0.
+    #[inline(always)]
     pub fn make(&mut self, request: &CallRequest, sent: &[u8], room: &[u8]) -> Result<(), Errno>
         ensures made { IfOk result (λ _. IsMade self.old request.now sent.now room.now self.new) }
         ensures roster { members_of self.new.kernel.threads ≡ members_of self.old.kernel.threads }
@@ -101,7 +106,8 @@ impl Session {
         match request.lent(kind, sent) {
             Some(call) => self.call_lent(thread, &call),
             None => {
-                let call = request.call_as(kind, self.kernel.alloc(), sent, room)?;
+                let alloc = self.kernel.alloc();
+                let call = request.call_as(kind, alloc, &mut self.spares, sent, room)?;
                 self.call(thread, call)
             }
         }

@@ -1,6 +1,7 @@
 //! Writes completions for C.
 
 ghost use Rattle.std.specs.Prelude.{◌≡◌, ◌≤◌, length, take};
+ghost use Rattle.qbase.specs.Copying.{lay_over, laid_count};
 ghost use Rattle.balsaeuchre_c.specs.Rows.{told_bytes};
 ghost use Rattle.balsaeuchre_c.specs.WriteRows.{IsTold};
 
@@ -40,6 +41,18 @@ fn told_front(completion: &Completion) -> &[u8]
     }
 }
 
+/// Copies the bytes of a completion like `lay`. A completion often has none.
+#[inline(always)]
+fn lay_told(bytes: &mut [u8], start: usize, told: &[u8]) -> usize
+    ensures after { bytes.new ≡ lay_over bytes.old start told.now }
+    ensures count { result ≡ laid_count bytes.old start told.now }
+{
+    if told.is_empty() {
+        return 0;
+    }
+    lay(bytes, start, told)
+}
+
 /// Writes the completions of a kernel's last event into the first rows. Writes the bytes of their buffers
 /// into `bytes`, one after another, as far as there is room.
 pub fn tell(
@@ -54,8 +67,8 @@ pub fn tell(
     let mut start = 0;
     for (place, completion) in completions.iter().enumerate() {
         let told = told_front(completion);
-        let written = lay(bytes, start, told);
-        rows[place] = Row::of(kernel, completion, start, told.len(), written);
+        let written = lay_told(bytes, start, told);
+        rows[place].write(kernel, completion, start, told.len(), written);
         start += written;
     }
     EventCounts {

@@ -51,6 +51,7 @@ pub enum Call<'a> {
 
 impl<'a> Call<'a> {
     /// Returns the request for the library, the bytes that the call sends, and its buffer.
+    #[inline(always)]
     pub(crate) fn raw(self, thread: u8) -> (RawRequest, &'a [u8], &'a [u8]) {
         let of = |kind, id| RawRequest { kind, thread, id, ..RawRequest::default() };
         match self {

@@ -50,6 +50,7 @@ const ERRNOS: [(Errno, u32, &str); 10] = [
 
 impl Errno {
     /// Returns the error with this number, which must be in `ERRNOS`.
+    #[cold]
     pub(crate) fn of(number: u32) -> Errno {
         ERRNOS.iter().find(|row| row.1 == number).expect("a number of an error").0
     }

@@ -218,9 +218,9 @@ impl Place {
         self.make_room(lent.len(), room.len());
         // SAFETY: this port is the place's owner, and has no open call.
         unsafe { self.shared.places[self.at].open(lent) };
-        let mut locked = self.shared.lock();
+        let (mut locked, mut own) = (self.shared.lock(), None);
         // SAFETY: the room is a part of the buffer that is lent.
-        let (own, asleep) = unsafe { locked.make(&self.shared, self.at, (&request, sent, room), lent) };
+        let asleep = unsafe { locked.make(&self.shared, self.at, (&request, sent, room), lent, &mut own) };
         drop(locked);
         if own.is_some() {
             // SAFETY: this port is the place's owner, and its call isn't open.
@@ -265,7 +265,7 @@ impl Place {
     /// Unblocks this port's thread, by a call of its process's clock. Returns whether the clock's call
     /// completed the thread's call, and the time to try again if the kernel refused the clock's call.
     fn time_out(&self) -> (bool, Option<Instant>) {
-        let mut locked = self.shared.lock();
+        let (mut locked, mut own) = (self.shared.lock(), None);
         let place = &self.shared.places[self.at];
         if place.is_ended() {
             return (false, None);
@@ -275,7 +275,7 @@ impl Place {
         // SAFETY: the buffer has no bytes.
         let none = unsafe { Lent::of(&mut []) };
         // SAFETY: the room is empty.
-        let (own, asleep) = unsafe { locked.make(&self.shared, self.at, (&request, sent, room), none) };
+        let asleep = unsafe { locked.make(&self.shared, self.at, (&request, sent, room), none, &mut own) };
         let is_late = place.is_ended();
         drop(locked);
         asleep.iter().for_each(thread::Thread::unpark);

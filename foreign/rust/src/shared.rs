@@ -5,7 +5,6 @@ use crate::ids::ReceiveId;
 use crate::kernel::{Call, Ending, Library, Mark, ROWS, RawEnding, RawRequest, Thread, kind};
 #[cfg(feature = "record")]
 use crate::record::Record;
-use crate::results::Info;
 use crate::sleeping::Place;
 use std::mem::swap;
 use std::ops::Range;
@@ -128,9 +127,6 @@ impl Sleepers {
     }
 }
 
-/// The result of the call if it completed in its own event, and the threads to wake.
-pub(crate) type Made = (Option<Mark>, Sleepers);
-
 /// A kernel with the places of its ports.
 pub(crate) struct Shared {
     lock: Mutex<Locked>,
@@ -206,7 +202,8 @@ impl Shared {
 }
 
 impl Locked {
-    /// Makes a call from a place, with a lent buffer, and delivers the completions to their threads.
+    /// Makes a call from a place, with a lent buffer, and delivers the completions to their threads. Returns
+    /// the threads to wake. If the call completed in its own event, `own` becomes its result.
     ///
     /// # Safety
     /// The room is empty, or a part of the buffer that is lent. It isn't a slice, because this function fills
@@ -217,10 +214,11 @@ impl Locked {
         place: usize,
         (request, sent, room): (&RawRequest, &[u8], *const [u8]),
         lent: Lent,
-    ) -> Made {
-        let (mut own, mut asleep, mut message) = (None, Sleepers::default(), None);
-        let mut end = |at: Option<usize>, mark| match at {
-            None => own = Some(mark),
+        own: &mut Option<Mark>,
+    ) -> Sleepers {
+        let (mut asleep, mut message) = (Sleepers::default(), None);
+        let mut end = |at: Option<usize>, mark: &Mark| match at {
+            None => *own = Some(*mark),
             // SAFETY:
             // - The caller has the lock.
             // - The call is open: its lent buffer was taken from it, and only once.
@@ -237,44 +235,48 @@ impl Locked {
         // SAFETY: the buffer is lent, and nothing else uses it.
         let endings = match unsafe { self.library.make((request, sent, room), rows, bytes) } {
             Ok(endings) => endings,
-            Err(errno) => return (Some(Mark::Failed(errno)), Sleepers::default()),
+            Err(errno) => {
+                *own = Some(Mark::Failed(errno));
+                return asleep;
+            }
         };
-        for ending in endings.iter() {
-            let at = usize::from(shared.place_of[usize::from(ending.thread)]);
-            let at = Some(at).filter(|_| at != usize::from(NONE) && ending.thread != request.thread);
+        for row in endings.rows() {
+            let at = usize::from(shared.place_of[usize::from(row.thread())]);
+            let at = Some(at).filter(|_| at != usize::from(NONE) && row.thread() != request.thread);
             // SAFETY: this thread has the lock.
             let lent = at.map_or(lent, |at| unsafe { shared.places[at].lent() }.expect("a call that ends was open"));
             // SAFETY:
             // - The call completes below, under the lock.
             // - The kernel has already read the call's room.
-            unsafe { lent.fill(0, ending.buffer) };
-            match ending.mark {
+            unsafe { lent.fill(0, endings.buffer(row)) };
+            let mut mark = row.mark();
+            match &mut mark {
                 // At most one message is received in an event.
-                Mark::Message { rcvid, info } => message = Some((ending.thread, at, lent, rcvid, info)),
-                Mark::Info(info) => {
-                    // SAFETY: this thread has the lock.
-                    let msglen = unsafe { sender(info.thread).msglen() };
-                    end(at, Mark::Info(Info { msglen, ..info }));
+                Mark::Message { rcvid, info } if info.msglen < info.srcmsglen.min(lent.0.len()) => {
+                    message = Some((row.thread(), at, lent, *rcvid, *info));
+                    continue;
                 }
-                mark => end(at, mark),
+                // SAFETY: this thread has the lock.
+                Mark::Message { info, .. } => unsafe { sender(info.thread).set_msglen(info.msglen) },
+                // SAFETY: this thread has the lock.
+                Mark::Info(info) => info.msglen = unsafe { sender(info.thread).msglen() },
+                _ => {}
             }
+            end(at, &mark);
         }
         if let Some((receiver, at, lent, rcvid, mut info)) = message {
             let rest = info.msglen..info.srcmsglen.min(lent.0.len());
-            if !rest.is_empty() {
-                // SAFETY: the receiver's call completes below, under the lock, and the buffer isn't filled
-                // while the slice is used.
-                #[cfg(feature = "record")]
-                shared.record.read_on(receiver, rcvid, unsafe { &lent.bytes()[rest.clone()] }, rest.start);
-                // SAFETY: the receiver's call completes below, under the lock, and no slice of the buffer is
-                // used.
-                info.msglen += unsafe { self.read_on(receiver, rcvid, lent, rest) };
-            }
+            // SAFETY: the receiver's call completes below, under the lock, and the buffer isn't filled while
+            // the slice is used.
+            #[cfg(feature = "record")]
+            shared.record.read_on(receiver, rcvid, unsafe { &lent.bytes()[rest.clone()] }, rest.start);
+            // SAFETY: the receiver's call completes below, under the lock, and no slice of the buffer is used.
+            info.msglen += unsafe { self.read_on(receiver, rcvid, lent, rest) };
             // SAFETY: this thread has the lock.
             unsafe { sender(info.thread).set_msglen(info.msglen) };
-            end(at, Mark::Message { rcvid, info });
+            end(at, &Mark::Message { rcvid, info });
         }
-        (own, asleep)
+        asleep
     }
 
     /// Reads the rest of a message into the part `rest` of the buffer, by a call of the receiver. Returns the
@@ -283,6 +285,7 @@ impl Locked {
     /// # Safety
     /// - The receiver's call, which lent the buffer, hasn't completed.
     /// - No slice of the buffer that was made before is used after this.
+    #[cold]
     unsafe fn read_on(&mut self, receiver: u8, rcvid: ReceiveId, lent: Lent, rest: Range<usize>) -> usize {
         let start = rest.start;
         // SAFETY: the slice is used only until the kernel has read it, and the buffer is filled after that.

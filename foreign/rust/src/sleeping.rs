@@ -116,11 +116,11 @@ impl Place {
     /// - The caller has the kernel's lock.
     /// - The call is open, and this is the only `end` for its `open`.
     #[must_use]
-    pub(crate) unsafe fn end(&self, mark: Mark) -> Option<Thread> {
+    pub(crate) unsafe fn end(&self, mark: &Mark) -> Option<Thread> {
         // SAFETY:
         // - The call is open, so its owner doesn't read the field.
         // - No other thread completes the call.
-        unsafe { *self.mark.get() = mark };
+        unsafe { *self.mark.get() = *mark };
         let is_asleep = self.word.swap(ENDED, Ordering::AcqRel) == ASLEEP;
         // SAFETY:
         // - The owner wrote the field before it fell asleep.
