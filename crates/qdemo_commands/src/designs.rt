@@ -9,17 +9,20 @@ use crate::completion::{end_failed, end_unwritten, print_text, text_of};
 use crate::json::faults::{faults_in, list_of};
 use crate::json::push_line;
 use crate::json::verdicts::verdict_of;
-use crate::remarks;
+use crate::remarks::FaultSource;
 use qexplore::explore::Observer;
 use qexplore_design::design_fault::DesignFault;
 use qexplore_design::verdict::words::{DesignSource, VerdictWords};
 use qexplore_design::{DesignReading, read};
 use qexplore_listing::listing::listing;
-use qexplore_programs::design::Design;
+use qexplore_programs::design::{Design, Step};
+use qscript_explain::odd_buffer::OddBuffer;
+use qscript_names::named::MOST_FAULTS;
 use qscript_text::place::Fault;
 use search_end::{SearchEnd, search};
 use serde_json::Value;
 use std::alloc::{AllocError, Global};
+use std::io;
 use std::process::ExitCode;
 use std::rt::Files;
 
@@ -121,7 +124,7 @@ pub fn run_explore<R: Files + Input + Print + Eprint + AllocGlobal>(
         Ok(DesignReading::Good(design)) => design,
         Ok(DesignReading::Faulty(faults)) => {
             print_faulty(rt, run, file, faults.as_slice())?;
-            let source = remarks::FaultSource::new(Some(file), text, errors, colours.errors);
+            let source = FaultSource::new(Some(file), text, errors, colours.errors);
             return Err(source.end_faulty(rt, faults.as_slice()));
         }
         Err(_) => return Err(end_failed(rt, "out of memory")),
@@ -181,13 +184,33 @@ fn explore_source<R: Print + Eprint + AllocGlobal>(
     let text = source.text;
     if run.screen.errors {
         let colours = run.screen.colours.errors;
-        let _ = remarks::FaultSource::new(run.file.as_deref(), text, true, colours).tell_oddities(
-            rt,
-        );
+        let told = FaultSource::new(run.file.as_deref(), text, true, colours);
+        let _ = tell_odd_buffers(rt, told, source.design);
     }
     let told = told_of(rt, run, source);
     let (told, status) = told.map_err(|_| end_failed(rt, "out of memory"))?;
     print_told(rt, run, &told, status)
+}
+
+/// Explains the buffers of a design that may be meant as lengths.
+fn tell_odd_buffers<R: Eprint + AllocGlobal>(
+    rt: &R,
+    told: FaultSource<'_>,
+    design: &Design,
+) -> io::Result<()> {
+    let mut count = 0usize;
+    for program in &design.programs {
+        for instruction in &program.code {
+            if let Step::Call(step) = &instruction.step
+                && let Some(buffer) = OddBuffer::of(step.call.buffer())
+                && count < MOST_FAULTS
+            {
+                told.tell_odd_buffer(rt, instruction.line as usize, buffer)?;
+                count = count.saturating_add(1);
+            }
+        }
+    }
+    Ok(())
 }
 
 /// Makes the requested search, and returns its output and the exit status.

@@ -13,7 +13,6 @@ use command::{PlayCommand, order_of};
 use fault::PlayFault;
 use qscript::fault::{LineFault, ScriptFault};
 use qscript_explain::explain;
-use qscript_explain::faults::oddities;
 use qscript_names::names_fault::NamesFault;
 use qscript_text::place::Fault;
 use std::alloc::AllocError;
@@ -208,9 +207,7 @@ impl<R: Files + Input + Print + Eprint + AllocGlobal> Play<'_, R> {
                 self.print(printed.as_slice())?;
                 self.tell_typed(faults.as_slice(), &[])?;
                 if self.terminal {
-                    for remark in &oddities(self.rt.alloc(), line)? {
-                        eprintln!(self.rt; "{}", remark.explanation.text(self.rt.alloc())?)?;
-                    }
+                    self.tell_odd_buffer(line)?;
                     self.tell_more()?;
                 }
             }
@@ -246,6 +243,17 @@ impl<R: Files + Input + Print + Eprint + AllocGlobal> Play<'_, R> {
         }
         let text = self.text_with(line)?;
         if let Some(explanation) = explain(self.rt.alloc(), text.as_slice(), number, fault)? {
+            eprintln!(self.rt; "{}", explanation.text(self.rt.alloc())?)?;
+        }
+        Ok(())
+    }
+
+    /// Explains the buffer of the line's call if it may be meant as a length.
+    fn tell_odd_buffer(&mut self, line: &[u8]) -> io::Result<()> {
+        let Some(buffer) = self.sheet.take_odd_buffer() else {
+            return Ok(());
+        };
+        if let Some(explanation) = buffer.explained(self.rt.alloc(), line)? {
             eprintln!(self.rt; "{}", explanation.text(self.rt.alloc())?)?;
         }
         Ok(())

@@ -1,10 +1,11 @@
-//! Unproved: words and layout. Writes remarks on a script to standard error: all its faults, its oddities,
-//! why its calls failed, and who is blocked on whom.
+//! Unproved: words and layout. Writes remarks on a script to standard error: all its faults, its odd
+//! buffers, why its calls failed, and who is blocked on whom.
 
 use crate::colours::{Mood, marks};
 use crate::completion::tell_fault;
 use qscript_explain::excerpt::excerpt_of;
-use qscript_explain::faults::{Remark, faults, oddities};
+use qscript_explain::faults::{Remark, faults};
+use qscript_explain::odd_buffer::OddBuffer;
 use qscript_explain::report::RunReport;
 use qscript_text::parts::{Lines, Span};
 use qscript_text::place::Fault;
@@ -85,22 +86,36 @@ impl<'a> FaultSource<'a> {
         }
     }
 
-    /// Prints the oddities of a script or a design, and explains them.
-    pub fn tell_oddities<R: Eprint + AllocGlobal>(self, rt: &R) -> io::Result<()> {
-        for remark in &oddities(rt.alloc(), self.text)? {
-            self.tell_place(rt, remark)?;
-            eprintln!(rt; "{}", remark.explanation.text(rt.alloc())?)?;
-        }
-        Ok(())
+    /// Explains a buffer of a script or a design that may be meant as a length, and prints its place.
+    pub fn tell_odd_buffer<R: Eprint + AllocGlobal>(
+        self,
+        rt: &R,
+        line: usize,
+        buffer: OddBuffer,
+    ) -> io::Result<()> {
+        let text = Lines(self.text).nth(line.saturating_sub(1)).unwrap_or(&[]);
+        let Some(explanation) = buffer.explained(rt.alloc(), text)? else {
+            return Ok(());
+        };
+        let remark = Remark {
+            line,
+            fault: None,
+            explanation,
+        };
+        self.tell_place(rt, &remark)?;
+        eprintln!(rt; "{}", remark.explanation.text(rt.alloc())?)
     }
 
-    /// Prints the oddities of a script, why its calls failed, and who is blocked on whom at its end.
+    /// Explains the odd buffers of a script, and prints why its calls failed and who is blocked on whom at
+    /// its end.
     pub fn tell_report<R: Eprint + AllocGlobal>(
         self,
         rt: &R,
         report: &RunReport,
     ) -> io::Result<()> {
-        self.tell_oddities(rt)?;
+        for (line, buffer) in &report.odd_buffers {
+            self.tell_odd_buffer(rt, *line, *buffer)?;
+        }
         for (line, refusal) in &report.refusals {
             match self.file {
                 Some(name) => eprintln!(rt; "{name}:{line}: {refusal}")?,

@@ -1,6 +1,7 @@
 //! Unproved: words and layout. A run whose failures and waits are explained.
 
 use crate::history::{CallHistory, PastCall};
+use crate::odd_buffer::OddBuffer;
 use crate::waiting::{Wait, deadlocks, waits};
 use crate::why::refusals;
 use qbase::errno::Errno;
@@ -19,6 +20,8 @@ pub struct ExplainedRun {
     /// A box, since a run is large and its owners pass it on.
     run: Box<Run, Global>,
     history: CallHistory,
+    /// The buffer of the latest call, if it may be meant as a length.
+    odd_buffer: Option<OddBuffer>,
 }
 
 impl ExplainedRun {
@@ -32,12 +35,14 @@ impl ExplainedRun {
         Ok(ExplainedRun {
             run: Box::new(alloc, run).map_err(|_| AllocError)?,
             history: CallHistory::new(alloc),
+            odd_buffer: None,
         })
     }
 
     /// Makes the next call in the run. After `NoMemory` the run must not be used again.
     pub fn make(&mut self, thread: ThreadNo, call: Call) -> Result<(), Errno> {
         let past = PastCall::of(thread, &call);
+        self.odd_buffer = OddBuffer::of(call.buffer());
         self.run.make(thread, call)?;
         Ok(self.history.add(past, self.run.completions())?)
     }
@@ -45,6 +50,11 @@ impl ExplainedRun {
     /// Returns the run, for reading.
     pub fn run(&self) -> &Run {
         &self.run
+    }
+
+    /// Returns the buffer of the latest call if it may be meant as a length. Returns it only once.
+    pub fn take_odd_buffer(&mut self) -> Option<OddBuffer> {
+        self.odd_buffer.take()
     }
 
     /// Returns the run, without the history of its calls.

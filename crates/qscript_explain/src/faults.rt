@@ -1,14 +1,10 @@
-//! Unproved: words and layout. Finds all faults of a text, and words that are probably mistakes.
+//! Unproved: words and layout. Finds all faults of a text.
 
 use crate::explanation::{Explanation, explain_line};
-use crate::plain_fault::PlainFault;
-use qscript_names::hints::{decimal_buffer, is_utf_16};
+use qscript_names::hints::is_utf_16;
 use qscript_names::named::MOST_FAULTS;
 use qscript_text::fault::{LineFault, ParseError};
-use qscript_text::grammar::{OperandKind, call_form};
-use qscript_text::lexing::token::{Token, TokenKind, tokens};
-use qscript_text::parts::{Lines, Span};
-use qscript_text::place::ReadError;
+use qscript_text::parts::Lines;
 use qscript_text::reading::line::ScriptLine;
 use qscript_text::reading::number::small;
 use qscript_text::reading::script::line_behind;
@@ -96,64 +92,5 @@ impl FaultReader {
             self.strangers.push(thread)?;
         }
         Ok(Some(fault))
-    }
-}
-
-/// Returns the words of a text without faults that are probably mistakes, at most `MOST_FAULTS`: buffers that
-/// look like lengths. The text is a script, plain or with names, or a design.
-pub fn oddities(alloc: Global, text: &[u8]) -> Result<Vec<Remark<'_>>, AllocError> {
-    let mut remarks = Vec::new(alloc);
-    for (at, line) in Lines(text).enumerate() {
-        if remarks.len() >= MOST_FAULTS {
-            break;
-        }
-        if let Some(explanation) = oddity(alloc, line)? {
-            remarks.push(Remark {
-                line: at.saturating_add(1),
-                fault: None,
-                explanation,
-            })?;
-        }
-    }
-    Ok(remarks)
-}
-
-fn oddity(alloc: Global, line: &[u8]) -> Result<Option<Explanation<'_>>, AllocError> {
-    let tokens = match tokens(alloc, line, 1) {
-        Ok(tokens) => tokens,
-        Err(error) => {
-            let _fault = error.fault()?;
-            return Ok(None);
-        }
-    };
-    let Some(buffer) = buffer_of(tokens.as_slice()) else {
-        return Ok(None);
-    };
-    let place = Span {
-        at: buffer.place.column.saturating_sub(1) as usize,
-        len: buffer.bytes.len(),
-    };
-    let decimal = decimal_buffer(alloc, buffer.bytes)?;
-    Ok(decimal.map(|buffer| Explanation {
-        line,
-        place,
-        kind: PlainFault::Buffer(buffer),
-    }))
-}
-
-/// Returns the buffer of a call's line, with or without its caller, if it is a plain word.
-fn buffer_of<'a>(tokens: &[Token<'a>]) -> Option<Token<'a>> {
-    let call = match tokens {
-        [_, equals, call @ ..] if equals.sort == TokenKind::Equals => call,
-        call => call,
-    };
-    let is_verb = |token: &Token<'_>| call_form(token.bytes).is_some();
-    let front = call.iter().take(2).position(is_verb)?;
-    let form = call_form(call.get(front)?.bytes)?;
-    let buffer = call.get(front.saturating_add(form.operands.len()))?;
-    match form.operands.last() {
-        Some(OperandKind::Buffer | OperandKind::ReplyBuffer) if buffer.sort == TokenKind::Word =>
-            Some(*buffer),
-        _ => None,
     }
 }

@@ -7,6 +7,7 @@ pub mod explained_run;
 pub mod explanation;
 pub mod faults;
 pub mod history;
+pub mod odd_buffer;
 pub mod plain_fault;
 pub mod report;
 pub mod session;

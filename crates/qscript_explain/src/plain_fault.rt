@@ -1,8 +1,7 @@
 //! Unproved: words and layout. The faults of the lines of plain scripts, with their hints, and their words.
 
-use qscript_names::hints::words::{
-    DecimalBuffer, ExpectedOperand, ExtraHint, OperandHint, UnknownCall,
-};
+use crate::odd_buffer::OddBuffer;
+use qscript_names::hints::words::{ExpectedOperand, ExtraHint, OperandHint, UnknownCall};
 use qscript_text::grammar::Form;
 use qscript_text::reading::line::MOST_BYTES;
 use qscript_text::text_fault::{ByteHint, OperandCount};
@@ -10,6 +9,7 @@ use qscript_text::word::Word;
 use std::fmt;
 
 /// Why a part of a line is faulty or odd.
+#[derive(Drop)]
 pub enum PlainFault {
     /// The line has so many bytes.
     LongLine(usize),
@@ -36,30 +36,7 @@ pub enum PlainFault {
     /// The caller has no line.
     UnknownThread(Word),
     /// A buffer that looks like a length.
-    Buffer(DecimalBuffer),
-}
-
-// Each place that drops one calls this. A derived drop would be repeated, and proved, at each of them.
-impl Drop for PlainFault {
-    fn drop(self) {
-        match self {
-            PlainFault::LongLine(_)
-            | PlainFault::Byte(_)
-            | PlainFault::Operand(_)
-            | PlainFault::Comment
-            | PlainFault::NoCaller(_)
-            | PlainFault::MisspeltThread(_)
-            | PlainFault::BadCaller(_)
-            | PlainFault::NoCall
-            | PlainFault::Operands(_, _)
-            | PlainFault::Call(_)
-            | PlainFault::DoubleThread { thread: _, line: _ }
-            | PlainFault::LateThread(_)
-            | PlainFault::TooManyThreads
-            | PlainFault::UnknownThread(_)
-            | PlainFault::Buffer(_) => {}
-        }
-    }
+    Buffer(OddBuffer),
 }
 
 /// A byte that no line may contain.

@@ -1,6 +1,8 @@
-//! Unproved: words and layout. Reports why calls of a run failed, and which threads wait at its end.
+//! Unproved: words and layout. Reports the odd buffers of a run, why its calls failed, and which threads wait
+//! at its end.
 
 use crate::explained_run::ExplainedRun;
+use crate::odd_buffer::OddBuffer;
 use crate::waiting::Wait;
 use qbase::ids::ThreadNo;
 use qmodel::call::{Call, Mark};
@@ -8,6 +10,7 @@ use qscript::fault::ScriptFault;
 use qscript::run::Run;
 use qscript::{Script, parse};
 use qscript_names::context::Context;
+use qscript_names::named::MOST_FAULTS;
 use qscript_names::scope::Scope;
 use qscript_text::parts::call_lines;
 use std::alloc::{AllocError, Global};
@@ -15,9 +18,13 @@ use std::alloc::{AllocError, Global};
 /// The greatest number of failures that are reported.
 pub const MOST_REFUSALS: usize = 100;
 
-/// The report of a run: its failures with their reasons, and the threads that wait at its end.
+/// The report of a run: its odd buffers, its failures with their reasons, and the threads that wait at its
+/// end.
 #[derive(Drop)]
 pub struct RunReport {
+    /// The first buffers that may be meant as lengths, at most `MOST_FAULTS`, each with the number of its
+    /// line, counted from 1.
+    pub odd_buffers: Vec<(usize, OddBuffer)>,
     /// The first failures, at most `MOST_REFUSALS`, each with the number of its line, counted from 1.
     pub refusals: Vec<(usize, String)>,
     /// The number of calls that failed.
@@ -40,6 +47,8 @@ pub struct ReportedRun {
     run: ExplainedRun,
     /// The numbers of the lines of its calls.
     lines: Vec<usize>,
+    /// The number of calls made so far.
+    made: u64,
     report: RunReport,
 }
 
@@ -53,7 +62,9 @@ impl ReportedRun {
         Ok(ReportedRun {
             run: ExplainedRun::new(alloc, script.roster.as_slice(), script.calls.len())?,
             lines,
+            made: 0,
             report: RunReport {
+                odd_buffers: Vec::new(alloc),
                 refusals: Vec::new(alloc),
                 failures: 0,
                 waits: Vec::new(alloc),
@@ -79,6 +90,13 @@ impl ReportedRun {
         call: Call,
     ) -> Result<(), AllocError> {
         self.run.make(thread, call).map_err(|_| AllocError)?;
+        self.made = self.made.saturating_add(1);
+        if let Some(buffer) = self.run.take_odd_buffer()
+            && self.report.odd_buffers.len() < MOST_FAULTS
+        {
+            let line = self.line_of(self.made);
+            self.report.odd_buffers.push((line, buffer))?;
+        }
         let completions = self.run().completions().iter();
         let failed = completions.filter(|completion| matches!(completion.mark, Mark::Failed(_)));
         let count = failed.count();
@@ -94,11 +112,15 @@ impl ReportedRun {
     /// Notes a failure of the call with this number, unless `MOST_REFUSALS` are noted already.
     fn note(&mut self, number: u64, refusal: String) -> Result<(), AllocError> {
         if self.report.refusals.len() < MOST_REFUSALS {
-            let place = number.saturating_sub(1) as usize;
-            let line = self.lines.get(place).copied().unwrap_or(0);
-            self.report.refusals.push((line, refusal))?;
+            self.report.refusals.push((self.line_of(number), refusal))?;
         }
         Ok(())
+    }
+
+    /// Returns the number of the line of the call with this number.
+    fn line_of(&self, number: u64) -> usize {
+        let place = number.saturating_sub(1) as usize;
+        self.lines.get(place).copied().unwrap_or(0)
     }
 
     /// Makes the calls of its script, and returns the result of `finish`.

@@ -2,6 +2,7 @@
 //! a line adds.
 
 use crate::explained_run::ExplainedRun;
+use crate::odd_buffer::OddBuffer;
 use crate::states::states_of;
 use qbase::errno::Errno;
 use qbase::ids::ThreadNo;
@@ -51,6 +52,11 @@ impl ScriptSession {
     /// Returns the run, or `None` if no call is made yet.
     pub fn run(&self) -> Option<&ExplainedRun> {
         self.run.as_ref()
+    }
+
+    /// Returns the buffer of the latest call if it may be meant as a length. Returns it only once.
+    pub fn take_odd_buffer(&mut self) -> Option<OddBuffer> {
+        self.run.as_mut()?.take_odd_buffer()
     }
 
     /// Adds a thread whose line is read elsewhere, so that the text doesn't have it. It must come before the

@@ -30,6 +30,7 @@ pub enum NumberPattern {
 }
 
 /// A pattern of the buffer of a completion.
+#[derive(Drop)]
 pub enum BufferPattern {
     /// Any buffer.
     Any,
@@ -37,17 +38,9 @@ pub enum BufferPattern {
     Begins(Bytes),
 }
 
-// Each place that drops one calls this. A derived drop would be repeated, and proved, at each of them.
-impl Drop for BufferPattern {
-    fn drop(self) {
-        match self {
-            BufferPattern::Any | BufferPattern::Begins(_) => {}
-        }
-    }
-}
-
 /// A pattern of the result of a completed call. A completion matches it if it has this kind, if its first
 /// numbers are these, and if its buffer matches.
+#[derive(Drop)]
 pub struct ResultPattern {
     pub kind: ResultKind,
     /// The numbers that the kind doesn't have: the id of a message; the call that sent a pulse, and the
@@ -57,18 +50,6 @@ pub struct ResultPattern {
     pub numbers: Vec<NumberPattern>,
     /// The pattern of the buffer, if there is one. It matches no call without a buffer.
     pub buffer: Option<BufferPattern>,
-}
-
-// Each place that drops one calls this. A derived drop would be repeated, and proved, at each of them.
-impl Drop for ResultPattern {
-    fn drop(self) {
-        let ResultPattern {
-            kind: _,
-            head: _,
-            numbers: _,
-            buffer: _,
-        } = self;
-    }
 }
 
 impl ResultPattern {
@@ -129,6 +110,7 @@ pub struct Follower {
 }
 
 /// The expectations of the line of a call.
+#[derive(Drop)]
 pub struct CallCheck {
     pub kind: CallKind,
     /// The place of the word that names the call.
@@ -139,19 +121,8 @@ pub struct CallCheck {
     pub followers: Vec<Follower>,
 }
 
-// Each place that drops one calls this. A derived drop would be repeated, and proved, at each of them.
-impl Drop for CallCheck {
-    fn drop(self) {
-        let CallCheck {
-            kind: _,
-            place: _,
-            own: _,
-            followers: _,
-        } = self;
-    }
-}
-
 /// A line with the expected state of a thread.
+#[derive(Drop)]
 pub struct StateCheck {
     /// The number of calls above it.
     pub calls: u64,
@@ -163,18 +134,4 @@ pub struct StateCheck {
     /// The text of the line after `is`, as written.
     pub text: Word,
     pub place: Place,
-}
-
-// Each place that drops one calls this. A derived drop would be repeated, and proved, at each of them.
-impl Drop for StateCheck {
-    fn drop(self) {
-        let StateCheck {
-            calls: _,
-            thread: _,
-            state: _,
-            channel: _,
-            text: _,
-            place: _,
-        } = self;
-    }
 }

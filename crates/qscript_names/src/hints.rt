@@ -13,7 +13,7 @@ use qscript_text::place::fault_at;
 use qscript_text::reading::call::is;
 use qscript_text::word::Word;
 use std::alloc::{AllocError, Global};
-use words::{BytesHint, DecimalBuffer, ExtraHint, MeantCall, OperandHint, UnknownCall};
+use words::{BytesHint, ExtraHint, MeantCall, OperandHint, UnknownCall};
 
 /// Returns a word in lowercase, without underscores.
 fn lowercase(alloc: Global, word: &[u8]) -> Result<Vec<u8>, AllocError> {
@@ -234,12 +234,4 @@ fn letters_hint(alloc: Global, word: &[u8]) -> Result<Option<OperandHint>, Alloc
     }
     let letters = Word::of(alloc, quotation(word))?;
     Ok(Some(OperandHint::Letters(letters)))
-}
-
-/// Returns a buffer that may be meant as a length, or `None` if it can't be meant so.
-pub fn decimal_buffer(alloc: Global, word: &[u8]) -> Result<Option<DecimalBuffer>, AllocError> {
-    if !is_decimal(word) || word.first() == Some(&b'0') || word.len() > 4 {
-        return Ok(None);
-    }
-    Ok(Some(DecimalBuffer(Word::of(alloc, quotation(word))?)))
 }

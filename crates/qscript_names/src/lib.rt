@@ -2,6 +2,7 @@
 #![tactic(auto)]
 
 pub mod context;
+pub mod difference;
 pub mod expectation;
 pub mod expecting;
 pub mod hints;

@@ -1,6 +1,6 @@
-//! Unproved: words and layout. The faults of scripts with names, the differences of their runs from their
-//! expectations, and the words of both.
+//! Unproved: words and layout. The faults of scripts with names, and their words.
 
+use crate::difference::Difference;
 use crate::hints::words::{
     BytesHint, ExpectedError, ExpectedNumber, ExpectedOperand, ExtraHint, UnknownCall,
 };
@@ -75,6 +75,7 @@ impl Drop for NamesFault {
 }
 
 /// The expected part of a line.
+#[derive(Drop)]
 pub enum NamesExpected {
     CallName,
     /// `thread`, which is misspelt.
@@ -105,30 +106,6 @@ pub enum NamesExpected {
     PulseContent,
 }
 
-// Each place that drops one calls this. A derived drop would be repeated, and proved, at each of them.
-impl Drop for NamesExpected {
-    fn drop(self) {
-        match self {
-            NamesExpected::CallName
-            | NamesExpected::Thread
-            | NamesExpected::Definition
-            | NamesExpected::Arrow
-            | NamesExpected::Operand(_)
-            | NamesExpected::Bytes(_)
-            | NamesExpected::Id(_)
-            | NamesExpected::Process
-            | NamesExpected::State
-            | NamesExpected::OnChannel
-            | NamesExpected::NoChannel
-            | NamesExpected::Number(_)
-            | NamesExpected::CompletionBytes
-            | NamesExpected::CompletionEnd
-            | NamesExpected::CompletionState
-            | NamesExpected::PulseContent => {}
-        }
-    }
-}
-
 /// A part of a line that is missing.
 #[derive(Clone, Copy)]
 pub enum MissingPart {
@@ -145,6 +122,7 @@ pub enum MissingPart {
 }
 
 /// The fault of a name.
+#[derive(Drop)]
 pub enum FaultyName {
     /// No line above defines it. A line below may define it, or another name may be meant.
     Undefined {
@@ -163,23 +141,6 @@ pub enum FaultyName {
     },
     /// A process is given by its number, but has this name.
     ProcessNumber(Word),
-}
-
-// Each place that drops one calls this. A derived drop would be repeated, and proved, at each of them.
-impl Drop for FaultyName {
-    fn drop(self) {
-        match self {
-            FaultyName::Undefined {
-                name: _,
-                below: _,
-                near: _,
-            }
-            | FaultyName::UndefinedProcess(_)
-            | FaultyName::OtherKind(_)
-            | FaultyName::Twice { name: _, line: _ }
-            | FaultyName::ProcessNumber(_) => {}
-        }
-    }
 }
 
 /// A name of another kind than its use needs.
@@ -202,70 +163,6 @@ pub enum NameUsage {
     Operand(CallKind),
     /// In an expectation.
     Expectation,
-}
-
-/// A difference of a run from an expectation.
-pub enum Difference {
-    /// A call completed otherwise than expected.
-    Completion {
-        expected: Word,
-        found: FoundEnd,
-    },
-    /// A call of this word failed, and no line expects it.
-    Failure {
-        call: &'static str,
-        found: FoundEnd,
-    },
-    /// The call of this name completed elsewhere.
-    Elsewhere {
-        name: Word,
-        expected: Word,
-        found: FoundEnd,
-    },
-    /// A call didn't complete. The last part is the state of its thread.
-    Open {
-        expected: Word,
-        state: &'static str,
-    },
-    /// A thread is in another state than expected.
-    State {
-        expected: Word,
-        found: String,
-    },
-}
-
-// Each place that drops one calls this. A derived drop would be repeated, and proved, at each of them.
-impl Drop for Difference {
-    fn drop(self) {
-        match self {
-            Difference::Completion {
-                expected: _,
-                found: _,
-            }
-            | Difference::Failure { call: _, found: _ }
-            | Difference::Elsewhere {
-                name: _,
-                expected: _,
-                found: _,
-            }
-            | Difference::Open {
-                expected: _,
-                state: _,
-            }
-            | Difference::State {
-                expected: _,
-                found: _,
-            } => {}
-        }
-    }
-}
-
-/// The completion of a call, in the notation of expectations.
-#[derive(Drop)]
-pub struct FoundEnd {
-    pub completion: String,
-    /// The line of the call that caused it, if that is another line.
-    pub line: Option<u64>,
 }
 
 impl FaultyName {
@@ -493,44 +390,6 @@ impl fmt::Display for OtherKind {
                 f.write_str("; a message has the name of its send")
             }
             _ => Ok(()),
-        }
-    }
-}
-
-impl fmt::Display for Difference {
-    fn fmt<W: fmt::Write>(&self, f: &mut fmt::Formatter<W>) -> fmt::Result {
-        match self {
-            Difference::Completion { expected, found } => {
-                write!(f, "expected {expected}, found {found}")
-            }
-            Difference::Failure { call, found } => {
-                write!(f, "expected '{call}' not to fail, found {found}")
-            }
-            Difference::Elsewhere {
-                name,
-                expected,
-                found,
-            } => write!(
-                f,
-                "expected {name} to complete here with {expected}, found {found}"
-            ),
-            Difference::Open { expected, state } => write!(
-                f,
-                "expected {expected}, found no completion: the thread is {state} at the end"
-            ),
-            Difference::State { expected, found } => {
-                write!(f, "expected {expected}, found {found}")
-            }
-        }
-    }
-}
-
-impl fmt::Display for FoundEnd {
-    fn fmt<W: fmt::Write>(&self, f: &mut fmt::Formatter<W>) -> fmt::Result {
-        let completion = &self.completion;
-        match self.line {
-            Some(line) => write!(f, "{completion} (line {line})"),
-            None => write!(f, "{completion}"),
         }
     }
 }

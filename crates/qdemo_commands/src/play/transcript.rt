@@ -5,6 +5,7 @@ use qbase::ids::ThreadNo;
 use qkernel::kernel::Kernel;
 use qmodel::call::Call;
 use qscript::fault::{LineFault, ScriptFault};
+use qscript_explain::odd_buffer::OddBuffer;
 use qscript_explain::session::ScriptSession;
 use qscript_names::context::Context;
 use qscript_names::incremental::IncrementalScript;
@@ -183,6 +184,11 @@ impl Transcript {
     /// Returns the run of the lines so far.
     pub fn session(&self) -> &ScriptSession {
         &self.session
+    }
+
+    /// Returns the buffer of the latest call if it may be meant as a length. Returns it only once.
+    pub fn take_odd_buffer(&mut self) -> Option<OddBuffer> {
+        self.session.take_odd_buffer()
     }
 
     /// Returns whether the lines so far are a script with names.

@@ -1,10 +1,11 @@
 //! Compares a run with the expectations of its script, call by call.
 
 use crate::context::Context;
+use crate::difference::{Difference, FoundEnd};
 use crate::expectation::{CallCheck, Expectation, ExpectedCompletion, Follower, StateCheck};
 use crate::expecting::completion_parts::ShownEnd;
 use crate::line::Operand;
-use crate::names_fault::{Difference, FoundEnd, NamesFault};
+use crate::names_fault::NamesFault;
 use crate::scope::Scope;
 use qbase::bytes::Bytes;
 use qbase::ids::ThreadNo;

@@ -48,16 +48,10 @@ impl fmt::Display for OperandHint {
 }
 
 /// An operand of this sort, which a word can't be read as.
+#[derive(Drop)]
 pub struct ExpectedOperand {
     pub sort: OperandKind,
     pub hint: Option<OperandHint>,
-}
-
-// Each place that drops one calls this. A derived drop would be repeated, and proved, at each of them.
-impl Drop for ExpectedOperand {
-    fn drop(self) {
-        let ExpectedOperand { sort: _, hint: _ } = self;
-    }
 }
 
 impl fmt::Display for ExpectedOperand {
@@ -136,17 +130,11 @@ pub enum MeantCall {
 }
 
 /// A word that names no call.
+#[derive(Drop)]
 pub struct UnknownCall {
     /// Its first bytes.
     pub word: Word,
     pub meant: MeantCall,
-}
-
-// Each place that drops one calls this. A derived drop would be repeated, and proved, at each of them.
-impl Drop for UnknownCall {
-    fn drop(self) {
-        let UnknownCall { word: _, meant: _ } = self;
-    }
 }
 
 impl fmt::Display for UnknownCall {
@@ -193,21 +181,5 @@ impl fmt::Display for ExpectedError {
             Some(word) => write!(f, ": write {word}"),
             None => Ok(()),
         }
-    }
-}
-
-/// A buffer of these decimal digits, which may be meant as a length.
-#[derive(Drop)]
-pub struct DecimalBuffer(pub Word);
-
-impl fmt::Display for DecimalBuffer {
-    fn fmt<W: fmt::Write>(&self, f: &mut fmt::Formatter<W>) -> fmt::Result {
-        let digits = &self.0;
-        let count = digits.as_str().len() / 2;
-        let bytes = if count == 1 { "byte" } else { "bytes" };
-        write!(
-            f,
-            "{digits} is {count} {bytes}; for {digits} bytes of zero write {digits}x00"
-        )
     }
 }
