@@ -165,7 +165,7 @@ impl<'a, K: Tie, L: Log> KernelPort<'a, K, L> {
         ensures taken { collected_by self.new.port ≡ collected_by self.old.port }
         ensures same { (self.new.port.thread ≡ self.old.port.thread)
             × (self.new.port.asked ≡ self.old.port.asked) × (self.new.port.seat ≡ self.old.port.seat)
-            × (self.new.port.scratch.pending ≡ self.old.port.scratch.pending)
+            × (self.new.port.scratch.turn.pending ≡ self.old.port.scratch.turn.pending)
             × (self.new.port.last ≡ self.old.port.last) × (self.new.told ≡ self.old.told) }
     {
         self.port.learn(other);
@@ -199,7 +199,7 @@ impl<'a, K: Tie, L: Log> Endpoint for KernelPort<'a, K, L> {
     ghost history = { λ p. record {
       asked = p.port.asked.calls;
       taken = collected_by p.port;
-      pending = p.port.scratch.pending;
+      pending = p.port.scratch.turn.pending;
       told = p.told;
     } };
 

@@ -65,7 +65,7 @@ impl<'a, 'p, K: Tie, L: Log, R: Wait> Caller<'a, KernelPort<'p, K, L>, R> {
         ensures same { (self.new.endpoint.port.thread ≡ self.old.endpoint.port.thread)
             × (self.new.endpoint.port.asked ≡ self.old.endpoint.port.asked)
             × (self.new.endpoint.port.seat ≡ self.old.endpoint.port.seat)
-            × (self.new.endpoint.port.scratch.pending ≡ self.old.endpoint.port.scratch.pending)
+            × (self.new.endpoint.port.scratch.turn.pending ≡ self.old.endpoint.port.scratch.turn.pending)
             × (self.new.endpoint.port.last ≡ self.old.endpoint.port.last)
             × (self.new.endpoint.told ≡ self.old.endpoint.told) }
     {

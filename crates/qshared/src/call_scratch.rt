@@ -12,15 +12,20 @@ use qmodel::call::{Call, Completion};
 use std::alloc::{AllocError, Global};
 use std::sync::ledger::Share;
 
-/// The index of a port's thread, its share of the count of all events, room for the completions of one call,
-/// and other data for calls under the lock. They are kept in the port and not under the lock, so that their
-/// cache lines stay with the port's thread.
+/// The data of a port's turn under the lock, and its share of the count of all events.
 #[derive(Drop)]
 pub struct CallScratch<K: Tie> {
+    pub(crate) share: Share<K>,
+    pub(crate) turn: Turn,
+}
+
+/// The index of a port's thread, room for the completions of one call, and other data for calls under the
+/// lock. They are kept in the port and not under the lock, so that their cache lines stay with the port's
+/// thread.
+#[derive(Drop)]
+pub struct Turn {
     pub(crate) alloc: Global,
     pub(crate) seat: ThreadRef,
-    // The port's share of the count of all events.
-    pub(crate) share: Share<K>,
     // The completions of one call. The list is empty between two calls.
     pub(crate) completions: Box<Completions>,
     // The bit of each other thread whose cell was filled in this turn.
@@ -91,22 +96,16 @@ pub(crate) fn keep_lent(lent: &mut Call, call: Call) {
     }
 }
 
-impl<K: Tie> CallScratch<K> {
-    /// Makes the room, 7 KB, for the port of the thread at this index.
-    pub(crate) fn new(
-        alloc: Global,
-        seat: ThreadRef,
-        share: Share<K>,
-    ) -> Result<CallScratch<K>, AllocError>
-        ensures seat { IfOk result (λ scratch. scratch.seat ≡ seat) }
-        ensures share { IfOk result (λ scratch. scratch.share ≡ share) }
+impl Turn {
+    /// Makes the room, 7 KB, for the thread at this index.
+    pub fn new(alloc: Global, seat: ThreadRef) -> Result<Turn, AllocError>
+        ensures seat { IfOk result (λ turn. turn.seat ≡ seat) }
         ensures none { IfOk result
-            (λ scratch. (scratch.completions.value.items ≡ []) × (scratch.pending ≡ false)) }
+            (λ turn. (turn.completions.value.items ≡ []) × (turn.pending ≡ false)) }
     {
-        Ok(CallScratch {
+        Ok(Turn {
             alloc,
             seat,
-            share,
             completions: Box::new(alloc, ArrayVec::new_in(alloc))?,
             woken: 0,
             pending: false,
@@ -114,5 +113,22 @@ impl<K: Tie> CallScratch<K> {
             own: None,
             copies: None,
         })
+    }
+}
+
+impl<K: Tie> CallScratch<K> {
+    /// Makes the room for the port of the thread at this index.
+    pub(crate) fn new(
+        alloc: Global,
+        seat: ThreadRef,
+        share: Share<K>,
+    ) -> Result<CallScratch<K>, AllocError>
+        ensures seat { IfOk result (λ scratch. scratch.turn.seat ≡ seat) }
+        ensures share { IfOk result (λ scratch. scratch.share ≡ share) }
+        ensures none { IfOk result (λ scratch. (scratch.turn.completions.value.items ≡ [])
+            × (scratch.turn.pending ≡ false)) }
+    {
+        let turn = Turn::new(alloc, seat)?;
+        Ok(CallScratch { share, turn })
     }
 }

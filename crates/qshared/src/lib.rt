@@ -4,11 +4,12 @@
 
 mod admitting;
 pub mod asking;
-mod call_scratch;
+pub mod call_scratch;
 pub mod called;
 mod cell_steps;
 mod close_buffers;
 pub mod delivery;
+pub mod desk;
 pub mod ghost_history;
 pub mod ghost_trace;
 mod handing;
@@ -18,6 +19,7 @@ mod lock_state;
 pub mod log;
 mod logged_copy;
 pub mod observed_prefix;
+pub mod opener;
 pub mod parts;
 pub mod port;
 mod preallocated;

@@ -40,15 +40,15 @@ pub struct Port<K: Tie> {
     pub(crate) last: history::Prefix,
     ghost seat_is: { thread_id seat ≡ K.names.cells },
     ghost thread_is: { place (threads_of K.names.roster) thread ≡ Some (thread_of seat) },
-    ghost scratch_is: { (scratch.seat.thread ≡ thread) × (scratch.seat.index ≡ thread_of seat) },
-    ghost idle: { scratch.completions.value.items ≡ [] },
+    ghost scratch_is: { (scratch.turn.seat.thread ≡ thread) × (scratch.turn.seat.index ≡ thread_of seat) },
+    ghost idle: { scratch.turn.completions.value.items ≡ [] },
     ghost counted: { scratch.share.amount ≡ calls },
     ghost part: { scratch.share.parts ≡ 1 },
     ghost asked_is: { slice_index_or K.names.lists (thread_of seat) 0 ≡ asked.name },
     ghost seen_is: { seen.name ≡ K.names.history },
     ghost since: { IsSince seen.trace last.trace },
     ghost calls_are: { calls_of last.trace thread ≡ asked.calls },
-    ghost later: { AreLater scratch.pending (at_once last.trace thread) (taken seat) },
+    ghost later: { AreLater scratch.turn.pending (at_once last.trace thread) (taken seat) },
 }
 
 impl<K: Tie> Port<K> {
@@ -60,18 +60,18 @@ impl<K: Tie> Port<K> {
         seen: history::Prefix,
     ) -> Port<K>
         requires seat { (thread_id seat ≡ K.names.cells)
-            × (place (threads_of K.names.roster) scratch.seat.thread ≡ Some (thread_of seat)) }
-        requires scratch { (scratch.seat.index ≡ thread_of seat) × (scratch.completions.value.items ≡ [])
-            × (scratch.pending ≡ false) }
+            × (place (threads_of K.names.roster) scratch.turn.seat.thread ≡ Some (thread_of seat)) }
+        requires scratch { (scratch.turn.seat.index ≡ thread_of seat) × (scratch.turn.completions.value.items ≡ [])
+            × (scratch.turn.pending ≡ false) }
         requires taken { taken seat ≡ [] }
         requires share { (scratch.share.amount ≡ 0) × (scratch.share.parts ≡ 1) }
         requires asked { slice_index_or K.names.lists (thread_of seat) 0 ≡ asked.name }
         requires seen { (seen.name ≡ K.names.history) × (seen.trace ≡ []) × (asked.calls ≡ []) }
-        ensures { (result.seat ≡ seat) × (result.calls ≡ 0) × (result.scratch.pending ≡ false)
+        ensures { (result.seat ≡ seat) × (result.calls ≡ 0) × (result.scratch.turn.pending ≡ false)
             × (result.asked ≡ asked) × (result.seen ≡ seen) × (result.last.trace ≡ []) }
     {
         Port {
-            thread: scratch.seat.thread(),
+            thread: scratch.turn.seat.thread(),
             seat,
             scratch,
             calls: 0,
@@ -93,9 +93,9 @@ impl<K: Tie> Port<K> {
 
     /// Returns whether a call was blocked and its completion isn't collected yet.
     pub fn pending(&self) -> bool
-        ensures { result ≡ self.now.scratch.pending }
+        ensures { result ≡ self.now.scratch.turn.pending }
     {
-        self.scratch.pending
+        self.scratch.turn.pending
     }
 
     /// Returns the thread that the port belongs to.

@@ -23,6 +23,7 @@ use crate::asking::{KernelCalls, PortCalls};
 use crate::call_scratch::CallScratch;
 use crate::close_buffers::CloseBuffers;
 use crate::delivery::{Delivery, Origin};
+use crate::desk::Desk;
 use crate::ghost_history::GhostHistory;
 use crate::history::{History, Prefix};
 use crate::lock_state::LockState;
@@ -107,7 +108,7 @@ fn ports_for<K: Tie>(
     ensures spare { OnOk result ((spare.new.parts ≡ 0) × (spare.new.amount ≡ 0)) }
     ensures ports { IfOk result (λ r. AreAll (λ p. thread_of p.seat) K.names.cells.slots r.0.items) }
     ensures new { IfOk result (λ r. (k : ℕ) (p : _) → get_elem? r.0.items k ≡ some p → (p.calls ≡ 0)
-        × (p.scratch.pending ≡ false) × (collected_by p ≡ [])
+        × (p.scratch.turn.pending ≡ false) × (collected_by p ≡ [])
         × (p.asked.calls ≡ []) × (p.seen.trace ≡ [])) }
 {
     let alloc = kernel.alloc();
@@ -191,7 +192,7 @@ impl<K: Tie, L: Log> Shared<K, L> {
         requires log { (L.roster log ≡ K.names.roster) × (L.past log ≡ []) }
         ensures ports { IfOk result (λ r. AreAll (λ p. thread_of p.seat) K.names.cells.slots r.1.items) }
         ensures new { IfOk result (λ r. (k : ℕ) (p : _) → get_elem? r.1.items k ≡ some p → (p.calls ≡ 0)
-            × (p.scratch.pending ≡ false) × (collected_by p ≡ [])
+            × (p.scratch.turn.pending ≡ false) × (collected_by p ≡ [])
             × (p.asked.calls ≡ []) × (p.seen.trace ≡ [])) }
     {
         let Parts {
@@ -213,8 +214,8 @@ impl<K: Tie, L: Log> Shared<K, L> {
         let room = CloseBuffers::new(alloc, many)?;
         let (book, mut spare) = blank.open::<K>();
         let (ports, wakers) = ports_for(&kernel, &threads, seats, asked, &mut spare, &seen)?;
-        let traced = Traced::new(kernel, seat, log, history);
-        let locked = LockState::new(traced, book, spare, room, heard);
+        let desk = Desk::new(Traced::new(kernel, seat, log, history), heard);
+        let locked = LockState::new(desk, book, spare, room);
         let lock = CachePadded::new(Mutex::new(Box::new(alloc, locked)?));
         let shared = Shared {
             cells,
@@ -291,11 +292,10 @@ impl<K: Tie, L: Log> Shared<K, L> {
     {
         let Shared { cells, lock, .. } = self;
         let LockState {
-            traced,
+            desk,
             mut book,
             mut spare,
             room,
-            heard,
             ..
         } = Box::into_inner(lock.into_inner().into_inner());
         let CloseBuffers {
@@ -305,6 +305,7 @@ impl<K: Tie, L: Log> Shared<K, L> {
             mut asked,
             ..
         } = room;
+        let Desk { traced, heard } = desk;
         let Traced {
             seat,
             log,
@@ -338,7 +339,7 @@ impl<K: Tie> Shared<K, RecordedHistory<K>> {
         requires named { AreParts K.names K.name K.parts parts }
         ensures ports { IfOk result (λ r. AreAll (λ p. thread_of p.seat) K.names.cells.slots r.1.items) }
         ensures new { IfOk result (λ r. (k : ℕ) (p : _) → get_elem? r.1.items k ≡ some p → (p.calls ≡ 0)
-            × (p.scratch.pending ≡ false) × (collected_by p ≡ [])
+            × (p.scratch.turn.pending ≡ false) × (collected_by p ≡ [])
             × (p.asked.calls ≡ []) × (p.seen.trace ≡ [])) }
         ensures error { IfErr result (λ e. e ≡ Errno.NoMemory) }
     {
@@ -388,7 +389,7 @@ impl<K: Tie> Shared<K, GhostHistory<K>> {
         requires named { AreParts K.names K.name K.parts parts }
         ensures ports { IfOk result (λ r. AreAll (λ p. thread_of p.seat) K.names.cells.slots r.1.items) }
         ensures new { IfOk result (λ r. (k : ℕ) (p : _) → get_elem? r.1.items k ≡ some p → (p.calls ≡ 0)
-            × (p.scratch.pending ≡ false) × (collected_by p ≡ [])
+            × (p.scratch.turn.pending ≡ false) × (collected_by p ≡ [])
             × (p.asked.calls ≡ []) × (p.seen.trace ≡ [])) }
         ensures error { IfErr result (λ e. e ≡ Errno.NoMemory) }
     {

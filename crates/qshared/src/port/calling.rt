@@ -57,25 +57,25 @@ impl<K: Tie> Port<K> {
         ensures calls { self.new.calls ≡ self.old.calls + (if is_call result then 1 else 0) }
         ensures asked { self.new.asked.calls ≡ self.old.asked.calls
             ++ (if is_call result then call ∷ [] else []) }
-        ensures pending { self.new.scratch.pending ≡ pends result self.old.scratch.pending }
-        ensures busy { OnBusy result (self.old.scratch.pending ≡ true) }
+        ensures pending { self.new.scratch.turn.pending ≡ pends result self.old.scratch.turn.pending }
+        ensures busy { OnBusy result (self.old.scratch.turn.pending ≡ true) }
         ensures taken { collected_by self.new ≡ collected_by self.old ++ gives result }
         ensures last { self.new.last.trace ≡ self.new.seen.trace }
         ensures same { (self.new.thread ≡ self.old.thread)
             × (thread_of self.new.seat ≡ thread_of self.old.seat) }
     {
         let mut call = call;
-        self.scratch.woken = 0;
-        free_lent(&mut self.scratch.lent);
-        copy_into::<L>(self.scratch.alloc, &call, &mut self.scratch.copies);
+        self.scratch.turn.woken = 0;
+        free_lent(&mut self.scratch.turn.lent);
+        copy_into::<L>(self.scratch.turn.alloc, &call, &mut self.scratch.turn.copies);
         let made = {
             let mut guard = spinning::lock(&*shared.lock, shared.looks, rt);
             self.make(&shared.cells, rt, &mut **guard, &mut call)
         };
-        shared.wake(self.scratch.woken);
-        clear(&mut self.scratch.copies);
-        let called = called_by(made, &mut self.scratch.own, &mut call);
-        keep_lent(&mut self.scratch.lent, call);
+        shared.wake(self.scratch.turn.woken);
+        clear(&mut self.scratch.turn.copies);
+        let called = called_by(made, &mut self.scratch.turn.own, &mut call);
+        keep_lent(&mut self.scratch.turn.lent, call);
         called
     }
 
@@ -95,17 +95,17 @@ impl<K: Tie> Port<K> {
             self.new.seen.trace) }
         ensures calls { self.new.calls ≡ self.old.calls + calls_in result }
         ensures asked { self.new.asked.calls ≡ self.old.asked.calls ++ asked_by first second result }
-        ensures pending { self.new.scratch.pending ≡ pends_both result self.old.scratch.pending }
-        ensures busy { OnBusyInBoth result (self.old.scratch.pending ≡ true) }
+        ensures pending { self.new.scratch.turn.pending ≡ pends_both result self.old.scratch.turn.pending }
+        ensures busy { OnBusyInBoth result (self.old.scratch.turn.pending ≡ true) }
         ensures taken { collected_by self.new ≡ collected_by self.old ++ gives_both result }
         ensures last { self.new.last.trace ≡ self.new.seen.trace }
         ensures same { (self.new.thread ≡ self.old.thread)
             × (thread_of self.new.seat ≡ thread_of self.old.seat) }
     {
-        self.scratch.woken = 0;
-        free_lent(&mut self.scratch.lent);
-        copy_into::<L>(self.scratch.alloc, &first, &mut self.scratch.copies);
-        let mut copies = L::copies(self.scratch.alloc, &second);
+        self.scratch.turn.woken = 0;
+        free_lent(&mut self.scratch.turn.lent);
+        copy_into::<L>(self.scratch.turn.alloc, &first, &mut self.scratch.turn.copies);
+        let mut copies = L::copies(self.scratch.turn.alloc, &second);
         let called = {
             let mut guard = spinning::lock(&*shared.lock, shared.looks, rt);
             let locked = &mut **guard;
@@ -113,7 +113,7 @@ impl<K: Tie> Port<K> {
             match first {
                 Called::Done(completion) => {
                     if is_ok(completion.mark) {
-                        self.scratch.copies = copies.take();
+                        self.scratch.turn.copies = copies.take();
                         let second = self.make_whole(&shared.cells, rt, locked, second);
                         CalledPair::Both(completion, second)
                     } else {
@@ -127,8 +127,8 @@ impl<K: Tie> Port<K> {
                 }
             }
         };
-        shared.wake(self.scratch.woken);
-        clear(&mut self.scratch.copies);
+        shared.wake(self.scratch.turn.woken);
+        clear(&mut self.scratch.turn.copies);
         called
     }
 
@@ -141,17 +141,17 @@ impl<K: Tie> Port<K> {
         call: Call,
     ) -> Called
         requires cells { (cells_id cells.now ≡ K.names.cells) × IsOrigin K.names (origin_of cells.now) }
-        requires copies { IfSome self.old.scratch.copies (λ c. c ≡ call) }
+        requires copies { IfSome self.old.scratch.turn.copies (λ c. c ≡ call) }
         ensures met { IsMet K.names.roster self.old.thread self.old.asked.calls self.old.seen.trace
-            locked.old.traced.past }
+            locked.old.desk.traced.past }
         ensures came { Answered K.names.roster L.refuses L.admits self.old.thread call result
-            locked.old.traced.past self.new.seen.trace }
-        ensures past { locked.new.traced.past ≡ self.new.seen.trace }
+            locked.old.desk.traced.past self.new.seen.trace }
+        ensures past { locked.new.desk.traced.past ≡ self.new.seen.trace }
         ensures calls { self.new.calls ≡ self.old.calls + (if is_call result then 1 else 0) }
         ensures asked { self.new.asked.calls ≡ self.old.asked.calls
             ++ (if is_call result then call ∷ [] else []) }
-        ensures pending { self.new.scratch.pending ≡ pends result self.old.scratch.pending }
-        ensures busy { OnBusy result (self.old.scratch.pending ≡ true) }
+        ensures pending { self.new.scratch.turn.pending ≡ pends result self.old.scratch.turn.pending }
+        ensures busy { OnBusy result (self.old.scratch.turn.pending ≡ true) }
         ensures taken { collected_by self.new ≡ collected_by self.old ++ gives result }
         ensures last { self.new.last.trace ≡ self.new.seen.trace }
         ensures same { (self.new.thread ≡ self.old.thread)
@@ -159,8 +159,8 @@ impl<K: Tie> Port<K> {
     {
         let mut call = call;
         let made = self.make(cells, rt, locked, &mut call);
-        let called = called_by(made, &mut self.scratch.own, &mut call);
-        keep_lent(&mut self.scratch.lent, call);
+        let called = called_by(made, &mut self.scratch.turn.own, &mut call);
+        keep_lent(&mut self.scratch.turn.lent, call);
         called
     }
 
@@ -175,27 +175,27 @@ impl<K: Tie> Port<K> {
         call: &mut Call,
     ) -> Result<(), Errno>
         requires cells { (cells_id cells.now ≡ K.names.cells) × IsOrigin K.names (origin_of cells.now) }
-        requires copies { IfSome self.old.scratch.copies (λ c. c ≡ call.old) }
+        requires copies { IfSome self.old.scratch.turn.copies (λ c. c ≡ call.old) }
         ensures met { IsMet K.names.roster self.old.thread self.old.asked.calls self.old.seen.trace
-            locked.old.traced.past }
+            locked.old.desk.traced.past }
         ensures came { Answered K.names.roster L.refuses L.admits self.old.thread call.old
-            (called_by result self.new.scratch.own call.old) locked.old.traced.past self.new.seen.trace }
+            (called_by result self.new.scratch.turn.own call.old) locked.old.desk.traced.past self.new.seen.trace }
         ensures refused { IfErr result (λ e. call.new ≡ call.old) }
-        ensures past { locked.new.traced.past ≡ self.new.seen.trace }
+        ensures past { locked.new.desk.traced.past ≡ self.new.seen.trace }
         ensures calls { self.new.calls ≡ self.old.calls + (if is_ok result then 1 else 0) }
         ensures asked { self.new.asked.calls ≡ self.old.asked.calls
             ++ (if is_ok result then call.old ∷ [] else []) }
-        ensures pending { self.new.scratch.pending
-            ≡ pends (called_by result self.new.scratch.own call.old) self.old.scratch.pending }
-        ensures busy { OnBusy (called_by result self.new.scratch.own call.old)
-            (self.old.scratch.pending ≡ true) }
+        ensures pending { self.new.scratch.turn.pending
+            ≡ pends (called_by result self.new.scratch.turn.own call.old) self.old.scratch.turn.pending }
+        ensures busy { OnBusy (called_by result self.new.scratch.turn.own call.old)
+            (self.old.scratch.turn.pending ≡ true) }
         ensures taken { collected_by self.new
-            ≡ collected_by self.old ++ gives (called_by result self.new.scratch.own call.old) }
+            ≡ collected_by self.old ++ gives (called_by result self.new.scratch.turn.own call.old) }
         ensures last { self.new.last.trace ≡ self.new.seen.trace }
         ensures same { (self.new.thread ≡ self.old.thread)
             × (thread_of self.new.seat ≡ thread_of self.old.seat) }
     {
-        clear(&mut self.scratch.own);
+        clear(&mut self.scratch.turn.own);
         let made = locked.call(
             cells,
             rt,
@@ -206,7 +206,7 @@ impl<K: Tie> Port<K> {
         );
         self.last = self.seen.again();
         self.calls += events(&made);
-        self.scratch.pending = pends(&made, &self.scratch.own, self.scratch.pending);
+        self.scratch.turn.pending = pends(&made, &self.scratch.turn.own, self.scratch.turn.pending);
         made
     }
 
@@ -216,12 +216,12 @@ impl<K: Tie> Port<K> {
     pub fn spare(&mut self) -> Option<Bytes>
         ensures last { self.new.last ≡ self.old.last }
         ensures taken { collected_by self.new ≡ collected_by self.old }
-        ensures pending { self.new.scratch.pending ≡ self.old.scratch.pending }
+        ensures pending { self.new.scratch.turn.pending ≡ self.old.scratch.turn.pending }
         ensures same { (self.new.thread ≡ self.old.thread)
             × (thread_of self.new.seat ≡ thread_of self.old.seat) × (self.new.calls ≡ self.old.calls)
             × (self.new.asked ≡ self.old.asked) × (self.new.seen ≡ self.old.seen) }
     {
-        bytes_of(mem::replace(&mut self.scratch.lent, Call::Shutdown))
+        bytes_of(mem::replace(&mut self.scratch.turn.lent, Call::Shutdown))
     }
 
     /// Learns a prefix of the history that another port of the kernel has seen. The next call is then known
@@ -231,7 +231,7 @@ impl<K: Tie> Port<K> {
         ensures others { Extends self.new.seen.trace other.entry.now }
         ensures taken { collected_by self.new ≡ collected_by self.old }
         ensures same { (self.new.thread ≡ self.old.thread) × (self.new.seat ≡ self.old.seat)
-            × (self.new.calls ≡ self.old.calls) × (self.new.scratch.pending ≡ self.old.scratch.pending)
+            × (self.new.calls ≡ self.old.calls) × (self.new.scratch.turn.pending ≡ self.old.scratch.turn.pending)
             × (self.new.asked ≡ self.old.asked) × (self.new.last ≡ self.old.last) }
     {
         self.seen.learn(&other.beginning);

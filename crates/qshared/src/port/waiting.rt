@@ -85,8 +85,8 @@ impl<K: Tie> Port<K> {
     pub fn poll<L: Log>(&mut self, shared: &Shared<K, L>) -> Option<Completion>
         ensures taken { MatchOption result (collected_by self.new ≡ collected_by self.old)
             (λ x. collected_by self.new ≡ collected_by self.old ++ x ∷ []) }
-        ensures pending { MatchOption result (self.new.scratch.pending ≡ self.old.scratch.pending)
-            (λ x. self.new.scratch.pending ≡ false) }
+        ensures pending { MatchOption result (self.new.scratch.turn.pending ≡ self.old.scratch.turn.pending)
+            (λ x. self.new.scratch.turn.pending ≡ false) }
         ensures same { (self.new.thread ≡ self.old.thread)
             × (thread_of self.new.seat ≡ thread_of self.old.seat) × (self.new.calls ≡ self.old.calls)
             × (self.new.asked ≡ self.old.asked) × (self.new.last ≡ self.old.last) }
@@ -99,7 +99,7 @@ impl<K: Tie> Port<K> {
         take(
             &mut self.seat,
             &shared.cells,
-            &mut self.scratch.pending,
+            &mut self.scratch.turn.pending,
             &mut self.seen,
             &mut place,
         );
@@ -110,9 +110,9 @@ impl<K: Tie> Port<K> {
     /// processor, and then sleeps until the thread is woken.
     /// `endpoint.rt` of `crates/balsaeuchre_calls` waits with it.
     pub fn wait<L: Log, R: Wait>(&mut self, shared: &Shared<K, L>, rt: &R) -> Completion
-        requires { self.old.scratch.pending ≡ true }
+        requires { self.old.scratch.turn.pending ≡ true }
         ensures taken { collected_by self.new ≡ collected_by self.old ++ result ∷ [] }
-        ensures pending { self.new.scratch.pending ≡ false }
+        ensures pending { self.new.scratch.turn.pending ≡ false }
         ensures same { (self.new.thread ≡ self.old.thread)
             × (thread_of self.new.seat ≡ thread_of self.old.seat) × (self.new.calls ≡ self.old.calls)
             × (self.new.asked ≡ self.old.asked) × (self.new.last ≡ self.old.last) }

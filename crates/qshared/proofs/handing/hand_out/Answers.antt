@@ -11,8 +11,8 @@ cancel-requires-clause-opened g c =
     let ts = threads_of (members_of c.args.kernel.now.threads) in
     let handing = rw c.in-Some.ensures.items at c.loop-completion.invariant.handing in
     let may = handing_next _ _ _ _ _ _ _ _ handing c.requires.apart c.requires.may in
-    let caller : c.in-Some.completion.thread ≡ c.args.scratch.now.seat.thread =
-    eqb-true c.in-Some.completion.thread c.args.scratch.now.seat.thread (search rules) in
+    let caller : c.in-Some.completion.thread ≡ c.args.turn.now.seat.thread =
+    eqb-true c.in-Some.completion.thread c.args.turn.now.seat.thread (search rules) in
     let same : may.0 ≡ c.index-own_place.result =
     same_Some _ _ (sym may.1 ∙ ap (place ts) caller ∙ c.requires.place ∙ ap Some (sym c.index-own_place.ensures)) in
     ap (λ k. (line (kernel_view c.loop-completion.seat) k).opened) (sym same) ∙ may.2
@@ -74,7 +74,7 @@ hand_one-place-requires-clause-delivered g c =
     let ts = threads_of (members_of c.args.kernel.now.threads) in
     let roster = (origin_of c.args.cells.now).roster.value in
     let made = c.args.seen.now.trace in
-    let X = c.args.scratch.now.completions.value.items in
+    let X = c.args.turn.now.completions.value.items in
     let foreign : eqb c.in-Some.completion.thread c.thread-thread.result ≡ false = search rules in
     let all = subst (λ t. AllByRecursion (MayArrive roster ts t made (kernel_view c.args.seat.now)) X)
     (sym c.thread-thread.ensures) c.requires.arrive in
@@ -102,7 +102,7 @@ loop-completion-preserved g c =
 pub loop-completion-init : goal.loop-completion-init
 loop-completion-init g c =
     let ts = threads_of (members_of c.args.kernel.now.threads) in
-    let X = c.args.scratch.now.completions.value.items in
+    let X = c.args.turn.now.completions.value.items in
     let d = kernel_view c.args.seat.now in
     let same : X ≡ c.deref_mut-completions.result.now.items = grind (arith, common_steps) in
     record {

@@ -39,11 +39,11 @@ new-port-requires-clause-seat g c =
     (at_index c.args.seats.items (length c.loop-seat.yielded) c.in-Some.seat t.0 t.1) in
     let below : c.thread.result < length c.args.threads.now =
     omega (arith, c.thread.ensures.within, ap (λ z. z.slots) row.0, c.requires.sized) in
-    let turned : c.in_ok-scratch.scratch.seat.thread ≡ c.index-threads-thread.result =
+    let turned : c.in_ok-scratch.scratch.turn.seat.thread ≡ c.index-threads-thread.result =
     ap (λ s. s.thread) c.in_ok-scratch.ensures.seat ∙ c.in-Some-seat.ensures.thread in (
       row.0,
       place_found (threads_of g.K.Tie.names.roster) c.args.threads.now c.thread.result
-          c.index-threads-thread.result c.in_ok-scratch.scratch.seat.thread
+          c.index-threads-thread.result c.in_ok-scratch.scratch.turn.seat.thread
           (rises g.K.Tie.names.roster c.requires.roster.0) c.requires.roster.1 below
           (turned ∙ c.index-threads-thread.is) ∙ ap Some c.thread.ensures.number,
     )
@@ -135,7 +135,7 @@ loop-seat-preserved g c =
     ∙ length-append c.pop.new.self.items (own ∷ []) in (
       ap (map (λ q. q.seat)) e ∙ map_snoc (λ q. q.seat) c.loop-seat.ports.items p ∙ ap (λ ys. ys ++ p.seat ∷ []) v.0
           ∙ ap (λ s. c.loop-seat.yielded ++ s ∷ []) c.new-port.ensures.0,
-      (λ k q at. each_pushed (λ r. (r.calls ≡ 0) × (r.scratch.pending ≡ false) × (r.asked.calls ≡ [])
+      (λ k q at. each_pushed (λ r. (r.calls ≡ 0) × (r.scratch.turn.pending ≡ false) × (r.asked.calls ≡ [])
           × (r.seen.trace ≡ []) × (r.last.trace ≡ [])) c.loop-seat.ports.items p v.1 (
             c.new-port.ensures.1,
             c.new-port.ensures.2,

@@ -4,7 +4,7 @@ use Rattle.qshared.proofs.shared.ports_for.Given as goal
 
 abbrev pub invariant-loop-seat : goal.invariant-loop-seat
 invariant-loop-seat g l = (map (λ p. p.seat) l.ports.items ≡ l.yielded)
-    × ((k : ℕ) (p : _) → get_elem? l.ports.items k ≡ some p → (p.calls ≡ 0) × (p.scratch.pending ≡ false)
+    × ((k : ℕ) (p : _) → get_elem? l.ports.items k ≡ some p → (p.calls ≡ 0) × (p.scratch.turn.pending ≡ false)
     × (p.asked.calls ≡ []) × (p.seen.trace ≡ []) × (p.last.trace ≡ []))
     × (l.spare.amount ≡ 0) × (l.spare.parts + length l.yielded ≡ g.K.Tie.names.cells.slots)
     × (length l.ports.items ≡ length l.yielded) × (g.K.Tie.names.cells.slots ≤ vec_capacity l.ports)

@@ -21,7 +21,7 @@ returns-clause-came g c =
                 past w.make_whole-second.new.self.seen.trace) w.in-Done.ensures.past
                 (subst
                 (λ t. Answered roster log.refuses log.admits t c.args.second w.make_whole-second.result
-                c.make_whole-first.new.locked.traced.past w.make_whole-second.new.self.seen.trace)
+                c.make_whole-first.new.locked.desk.traced.past w.make_whole-second.new.self.seen.trace)
                 w.in-Done.ensures.same.0 w.make_whole-second.ensures.came),
           ),
         );

@@ -10,22 +10,22 @@ pub invariant_of-self : goal.invariant_of-self
 invariant_of-self g c =
     let self = c.args.self.now in
     let e = c.call-made.ensures in
-    let own = c.call-made.new.scratch.own in
+    let own = c.call-made.new.scratch.turn.own in
     let p = called_by c.call-made.result own c.args.call.now in
-    let t = self.scratch.seat.thread in
+    let t = self.scratch.turn.seat.thread in
     let calls = ap (calls_of self.last.trace) self.scratch_is.0 ∙ self.calls_are in
-    let later = subst (λ u. AreLater self.scratch.pending (at_once self.last.trace u) (taken self.seat))
+    let later = subst (λ u. AreLater self.scratch.turn.pending (at_once self.last.trace u) (taken self.seat))
     (sym self.scratch_is.0) self.later in
     let since = extends_since self.seen.trace self.last.trace self.since in
     let copy = ap (λ s. s.trace) c.again-self.ensures.copy in
     let kept =
     (calls_after g.K.Tie.names.roster g.L.Log.refuses g.L.Log.admits t c.args.call.now self.asked.calls self.seen.trace
-    self.last.trace c.args.locked.now.traced.past c.call-made.new.seen.trace e.met since calls
-    (taken self.seat) self.scratch.pending later p e.came) in
+    self.last.trace c.args.locked.now.desk.traced.past c.call-made.new.seen.trace e.met since calls
+    (taken self.seat) self.scratch.turn.pending later p e.came) in
     let r =
     later_after g.K.Tie.names.roster g.L.Log.refuses g.L.Log.admits t c.args.call.now self.asked.calls self.seen.trace
-    self.last.trace c.args.locked.now.traced.past c.call-made.new.seen.trace e.met since calls
-    (taken self.seat) self.scratch.pending later p e.came e.idle in
+    self.last.trace c.args.locked.now.desk.traced.past c.call-made.new.seen.trace e.met since calls
+    (taken self.seat) self.scratch.turn.pending later p e.came e.idle in
     record {
       seat_is = self.seat_is;
       thread_is = self.thread_is;
@@ -43,7 +43,7 @@ invariant_of-self g c =
           rw (
             c.pends-self.ensures,
             e.seat.1,
-            sym (pends_called c.call-made.result own c.args.call.now self.scratch.pending),
+            sym (pends_called c.call-made.result own c.args.call.now self.scratch.turn.pending),
             copy,
             sym self.scratch_is.0,
           ) r.0;
@@ -53,22 +53,22 @@ pub returns-clause-taken : goal.returns-clause-taken
 returns-clause-taken g c =
     let self = c.args.self.now in
     let e = c.call-made.ensures in
-    let own = c.call-made.new.scratch.own in
+    let own = c.call-made.new.scratch.turn.own in
     let p = called_by c.call-made.result own c.args.call.now in
-    let t = self.scratch.seat.thread in
+    let t = self.scratch.turn.seat.thread in
     let calls = ap (calls_of self.last.trace) self.scratch_is.0 ∙ self.calls_are in
-    let later = subst (λ u. AreLater self.scratch.pending (at_once self.last.trace u) (taken self.seat))
+    let later = subst (λ u. AreLater self.scratch.turn.pending (at_once self.last.trace u) (taken self.seat))
     (sym self.scratch_is.0) self.later in
     let since = extends_since self.seen.trace self.last.trace self.since in
     let copy = ap (λ s. s.trace) c.again-self.ensures.copy in
     rw (copy, sym self.scratch_is.0)
     (later_after g.K.Tie.names.roster g.L.Log.refuses g.L.Log.admits t c.args.call.now self.asked.calls self.seen.trace
-    self.last.trace c.args.locked.now.traced.past c.call-made.new.seen.trace e.met since calls
-    (taken self.seat) self.scratch.pending later p e.came e.idle).1
+    self.last.trace c.args.locked.now.desk.traced.past c.call-made.new.seen.trace e.met since calls
+    (taken self.seat) self.scratch.turn.pending later p e.came e.idle).1
 
 pub returns-clause-pending : goal.returns-clause-pending
 returns-clause-pending g c =
     let made = c.call-made in
-    let before = c.args.self.now.scratch.pending in
-    c.pends-self.ensures ∙ ap (pends_with made.result made.new.scratch.own) made.ensures.seat.1
-    ∙ sym (pends_called made.result made.new.scratch.own c.args.call.now before)
+    let before = c.args.self.now.scratch.turn.pending in
+    c.pends-self.ensures ∙ ap (pends_with made.result made.new.scratch.turn.own) made.ensures.seat.1
+    ∙ sym (pends_called made.result made.new.scratch.turn.own c.args.call.now before)

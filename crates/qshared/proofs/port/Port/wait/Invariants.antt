@@ -7,4 +7,4 @@ invariant-loop g l =
     (collected l.self.last.trace l.self.thread (taken l.self.seat) ≡ collected l.fn.self.last.trace l.fn.self.thread
     (taken l.fn.self.seat)) × (l.self.thread ≡ l.fn.self.thread) × (thread_of l.self.seat ≡ thread_of l.fn.self.seat)
     × (l.self.calls ≡ l.fn.self.calls) × (l.self.asked ≡ l.fn.self.asked) × (l.self.seen ≡ l.fn.self.seen)
-    × (l.self.scratch.pending ≡ true) × (l.self.last ≡ l.fn.self.last)
+    × (l.self.scratch.turn.pending ≡ true) × (l.self.last ≡ l.fn.self.last)

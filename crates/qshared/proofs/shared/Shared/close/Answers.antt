@@ -126,7 +126,7 @@ returns-clause-due g c =
     ∙ at_port (λ q. q.seat) (λ q. []) g.K.Tie.names.roster past left (λ q. q.asked.calls) ports k p [] at in
     let o = h.told.owed t k is in
     port_due past p.seen.trace p.last.trace p.asked.calls p.thread t (taken p.seat)
-    (of_thread t left) p.scratch.pending _ same extends p.since now p.calls_are p.later o.later o.whole mine) whole)
+    (of_thread t left) p.scratch.turn.pending _ same extends p.since now p.calls_are p.later o.later o.whole mine) whole)
 
 pub returns-clause-seen : goal.returns-clause-seen
 returns-clause-seen g c =

@@ -1,6 +1,6 @@
 use Rattle.qshared.proofs.Common.{◌≡◌, kernel_view}
 use Rattle.qhandoff.specs.Words.{kernel_id}
-use Rattle.qshared.proofs.cell_steps.open_later.Given as goal
+use Rattle.qshared.proofs.opener.open_later.Given as goal
 
 -- the cell wasn't idle yet
 abbrev pub invariant-loop : goal.invariant-loop

@@ -1,5 +1,5 @@
 use Rattle.qshared.proofs.Common.{[], ap, set, sym, ◌∙◌, get_or-map, set-get_or}
-use Rattle.qshared.proofs.lock_state.agree.Goals as goal
+use Rattle.qshared.proofs.desk.agree.Goals as goal
 
 pub agree-requires : goal.agree-requires
 agree-requires c =

@@ -1,6 +1,6 @@
 use Rattle.qhandoff.specs.Words as cells
 use Rattle.qshared.proofs.Deliveries.{opened_told}
-use Rattle.qshared.proofs.cell_steps.try_open.Goals as goal
+use Rattle.qshared.proofs.opener.try_open.Goals as goal
 
 pub returns-clause-kernel_view : goal.returns-clause-kernel_view
 returns-clause-kernel_view c =
