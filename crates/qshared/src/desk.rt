@@ -13,7 +13,7 @@ ghost use Rattle.qshared.specs.Performing.{called_by};
 ghost use Rattle.qshared.specs.UnderLock.{IsSameKernel, roster_of};
 
 use crate::asking::{KernelCalls, PortCalls};
-use crate::call_scratch::Turn;
+use crate::turn::Turn;
 use crate::delivery::{Delivery, Origin};
 use crate::history::Prefix;
 use crate::log::Log;
@@ -61,7 +61,7 @@ impl<L: Log> Desk<L> {
     /// Makes a call of the thread that `turn` belongs to. If the call is an event, adds it to the thread's
     /// list. Afterwards `seen` is the whole history. The call is refused as by `Traced::perform`.
     #[inline(always)]
-    pub fn call<O: Opener>(
+    pub(crate) fn make<O: Opener>(
         &mut self,
         cells: &Cells<Delivery, Origin>,
         opener: &O,

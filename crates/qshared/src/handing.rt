@@ -12,7 +12,7 @@ ghost use Rattle.qshared.specs.Delivered.{kernel_view, origin_of, IsDelivered};
 ghost use Rattle.qshared.specs.Due.{of_thread, place};
 ghost use Rattle.qshared.specs.Private.Putting.{MayArrive, MayPut, Handed};
 
-use crate::call_scratch::Turn;
+use crate::turn::Turn;
 use crate::cell_steps::{cancel, put};
 use crate::delivery::{Delivery, Origin};
 use crate::history::Prefix;

@@ -4,12 +4,12 @@
 
 mod admitting;
 pub mod asking;
-pub mod call_scratch;
 pub mod called;
 mod cell_steps;
 mod close_buffers;
 pub mod delivery;
 pub mod desk;
+pub mod desk_port;
 pub mod ghost_history;
 pub mod ghost_trace;
 mod handing;
@@ -30,4 +30,5 @@ mod spin_policy;
 mod spinning;
 pub mod tie;
 pub mod traced;
+pub mod turn;
 mod waker;

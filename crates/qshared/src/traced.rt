@@ -19,7 +19,7 @@ ghost use Rattle.qshared.specs.Performing.{Performs, called_by};
 ghost use Rattle.qshared.specs.Desks.{AreCellsOf};
 ghost use Rattle.qshared.specs.UnderLock.{IsSameKernel, roster_of};
 
-use crate::call_scratch::Turn;
+use crate::turn::Turn;
 use crate::cell_steps::cancel;
 use crate::delivery::{Delivery, Origin};
 use crate::handing::hand_out;

@@ -114,10 +114,10 @@ new-port-requires-clause-asked g c =
     let scratch : reverse c.loop-seat.asked.items ≡ own ∷ reverse c.pop.new.self.items =
     popped c.loop-seat.asked.items c.pop.new.self.items own c.in-Some-pop.ensures.items in
     let R = map (λ a. a.name) (reverse c.pop.new.self.items) in
-    let N = map (λ q. q.asked.name) c.loop-seat.ports.items in
+    let N = map (λ q. q.core.asked.name) c.loop-seat.ports.items in
     ap (λ ns. get_or ns (thread_of c.in-Some.seat) 0) (sym v.6 ∙ ap (λ ys. N ++ map (λ a. a.name) ys) scratch)
     ∙ ap (λ k. get_or (N ++ own.name ∷ R) k 0)
-    (row.1 ∙ sym v.4 ∙ sym (length-map c.loop-seat.ports.items (λ q. q.asked.name))) ∙ get_or-append_seam N own.name R 0
+    (row.1 ∙ sym v.4 ∙ sym (length-map c.loop-seat.ports.items (λ q. q.core.asked.name))) ∙ get_or-append_seam N own.name R 0
 
 pub loop-seat-preserved : goal.loop-seat-preserved
 loop-seat-preserved g c =
@@ -128,15 +128,15 @@ loop-seat-preserved g c =
     let scratch : reverse c.loop-seat.asked.items ≡ own ∷ reverse c.pop.new.self.items =
     popped c.loop-seat.asked.items c.pop.new.self.items own c.in-Some-pop.ensures.items in
     let R = map (λ a. a.name) (reverse c.pop.new.self.items) in
-    let N = map (λ q. q.asked.name) c.loop-seat.ports.items in
+    let N = map (λ q. q.core.asked.name) c.loop-seat.ports.items in
     let more : length c.push_reserved.new.self.items ≡ length c.loop-seat.ports.items + 1 = ap length e
     ∙ length-append c.loop-seat.ports.items (p ∷ []) in
     let less : length c.loop-seat.asked.items ≡ length c.pop.new.self.items + 1 = ap length c.in-Some-pop.ensures.items
     ∙ length-append c.pop.new.self.items (own ∷ []) in (
-      ap (map (λ q. q.seat)) e ∙ map_snoc (λ q. q.seat) c.loop-seat.ports.items p ∙ ap (λ ys. ys ++ p.seat ∷ []) v.0
+      ap (map (λ q. q.core.seat)) e ∙ map_snoc (λ q. q.core.seat) c.loop-seat.ports.items p ∙ ap (λ ys. ys ++ p.core.seat ∷ []) v.0
           ∙ ap (λ s. c.loop-seat.yielded ++ s ∷ []) c.new-port.ensures.0,
-      (λ k q at. each_pushed (λ r. (r.calls ≡ 0) × (r.scratch.turn.pending ≡ false) × (r.asked.calls ≡ [])
-          × (r.seen.trace ≡ []) × (r.last.trace ≡ [])) c.loop-seat.ports.items p v.1 (
+      (λ k q at. each_pushed (λ r. (r.calls ≡ 0) × (r.core.turn.pending ≡ false) × (r.core.asked.calls ≡ [])
+          × (r.core.seen.trace ≡ []) × (r.core.last.trace ≡ [])) c.loop-seat.ports.items p v.1 (
             c.new-port.ensures.1,
             c.new-port.ensures.2,
             ap (λ a. a.calls) c.new-port.ensures.3 ∙ subst (λ xs. asked_in (get_elem? xs 0) ≡ []) scratch (v.7 0),
@@ -147,9 +147,9 @@ loop-seat-preserved g c =
       grind (arith, common_steps),
       grind (arith, common_steps),
       grind (arith, common_steps),
-      ap (λ ys. map (λ q. q.asked.name) ys ++ R) e
-          ∙ ap (λ ys. ys ++ R) (map_snoc (λ q. q.asked.name) c.loop-seat.ports.items p)
-          ∙ append_assoc N (p.asked.name ∷ []) R ∙ ap (λ n. N ++ n ∷ R) (ap (λ a. a.name) c.new-port.ensures.3)
+      ap (λ ys. map (λ q. q.core.asked.name) ys ++ R) e
+          ∙ ap (λ ys. ys ++ R) (map_snoc (λ q. q.core.asked.name) c.loop-seat.ports.items p)
+          ∙ append_assoc N (p.core.asked.name ∷ []) R ∙ ap (λ n. N ++ n ∷ R) (ap (λ a. a.name) c.new-port.ensures.3)
           ∙ ap (λ ys. N ++ map (λ a. a.name) ys) (sym scratch) ∙ v.6,
       (λ k. subst (λ xs. asked_in (get_elem? xs (suc k)) ≡ []) scratch (v.7 (suc k))),
       omega (arith, more, less, v.8),
@@ -166,7 +166,7 @@ returns-clause-ports g c =
     let v = c.loop-seat.invariant in
     let seats = c.requires.seats in (
       v.4 ∙ t.1 ∙ seats.0 ∙ c.requires.sized,
-      λ k p at. (ports_fresh (λ q. q.seat) g.K.Tie.names.cells c.args.seats.items c.loop-seat.ports.items
+      λ k p at. (ports_fresh (λ q. q.core.seat) g.K.Tie.names.cells c.args.seats.items c.loop-seat.ports.items
           (v.0 ∙ sym (map_same c.loop-seat.yielded) ∙ t.0) seats.1 seats.2 k p at).0,
     )
 
@@ -183,7 +183,7 @@ returns-clause-new g c =
     λ k p at. (
       (v.1 k p at).0,
       (v.1 k p at).1,
-      ap (λ q. collected q p.thread (taken p.seat)) (v.1 k p at).4,
+      ap (λ q. collected q p.core.thread (taken p.core.seat)) (v.1 k p at).4,
       (v.1 k p at).2,
       (v.1 k p at).3,
     )

@@ -14,10 +14,10 @@ use Rattle.qshared.proofs.shared.Shared.close.Goals as goal
 pub close-left-requires-clause-threads : goal.close-left-requires-clause-threads
 close-left-requires-clause-threads g c =
     let z = cells_id c.args.self.cells in (
-      ap length c.gather.ensures.seats ∙ length-map c.args.ports.items (λ p. p.seat) ∙ c.requires.all.0
+      ap length c.gather.ensures.seats ∙ length-map c.args.ports.items (λ p. p.core.seat) ∙ c.requires.all.0
           ∙ ap (λ y. y.slots) (sym c.args.self.cells_are),
       subst (IsRow z) (sym c.gather.ensures.seats)
-          (seats_row (λ p. p.seat) z c.args.ports.items (λ p. p.seat_is ∙ sym c.args.self.cells_are) c.requires.all.1),
+          (seats_row (λ p. p.core.seat) z c.args.ports.items (λ p. p.seat_is ∙ sym c.args.self.cells_are) c.requires.all.1),
     )
 
 pub without_places-requires : goal.without_places-requires
@@ -34,15 +34,15 @@ agree-requires g c =
     let under = c.into_inner-traced.result in
     let ports = c.args.ports.items in
     let named =
-    names_of (λ p. p.asked.name) ports g.K.Tie.names.lists
+    names_of (λ p. p.core.asked.name) ports g.K.Tie.names.lists
     (c.requires.all.0 ∙ sym under.named.1 ∙ sym (length-map under.heard.items (λ h. h.name)) ∙ ap length under.named.0)
     (λ k p at. ap (λ j. get_or g.K.Tie.names.lists j 0) (sym (c.requires.all.1 k p at)) ∙ p.asked_is) in
-    ap (map (λ a. a.name)) c.gather.ensures.asked ∙ map_both (λ a. a.name) (λ p. p.asked) ports ∙ named
+    ap (map (λ a. a.name)) c.gather.ensures.asked ∙ map_both (λ a. a.name) (λ p. p.core.asked) ports ∙ named
     ∙ sym under.named.0
 
 pub returns-clause-asked : goal.returns-clause-asked
 returns-clause-asked g c = λ t i at.
-    ap (λ ls. get_or ls i []) (sym (map_both (λ a. a.calls) (λ p. p.asked) c.args.ports.items)
+    ap (λ ls. get_or ls i []) (sym (map_both (λ a. a.calls) (λ p. p.core.asked) c.args.ports.items)
     ∙ ap (map (λ a. a.calls)) (sym c.gather.ensures.asked) ∙ c.agree.ensures)
     ∙ c.into_inner-traced.result.heard_all t i at ∙ ap (λ z. calls_of z.past t) (sym c.traced.view_is)
 
@@ -63,7 +63,7 @@ returns-clause-rises g c =
     let below : AreBelow (length ts) all =
     subst (λ n. AreBelow n all) long (left_below _ _ c.close-left.ensures.within) in
     let told : (t i : ℕ) → place ts t ≡ Some i
-    → took (get_elem? (map (λ p. p.seat) c.args.ports.items) i) ++ left_for i all ≡ later_due
+    → took (get_elem? (map (λ p. p.core.seat) c.args.ports.items) i) ++ left_for i all ≡ later_due
     (g.L.Log.past c.traced.inside.log) t =
     λ t i at. ap (λ ss. took (get_elem? ss i) ++ left_for i all) (sym c.gather.ensures.seats)
     ∙ left_told i _ c.close-left.result.items (cells.kernel_view c.traced.inside.seat)
@@ -71,7 +71,7 @@ returns-clause-rises g c =
     subst RiseByThread (sym (c.without_places.ensures ∙ left_all c.close-left.result.items))
     (left_by_thread ts (g.L.Log.past c.traced.inside.log) all
     (rises g.K.Tie.names.roster h.rises) (left_rises _ c.close-left.ensures.rises) below
-    (λ i. took (get_elem? (map (λ p. p.seat) c.args.ports.items) i)) told)
+    (λ i. took (get_elem? (map (λ p. p.core.seat) c.args.ports.items) i)) told)
 
 pub returns-clause-known : goal.returns-clause-known
 returns-clause-known g c =
@@ -83,7 +83,7 @@ returns-clause-known g c =
     let below : AreBelow (length ts) all =
     subst (λ n. AreBelow n all) long (left_below _ _ c.close-left.ensures.within) in
     let told : (t i : ℕ) → place ts t ≡ Some i
-    → took (get_elem? (map (λ p. p.seat) c.args.ports.items) i) ++ left_for i all ≡ later_due
+    → took (get_elem? (map (λ p. p.core.seat) c.args.ports.items) i) ++ left_for i all ≡ later_due
     (g.L.Log.past c.traced.inside.log) t =
     λ t i at. ap (λ ss. took (get_elem? ss i) ++ left_for i all) (sym c.gather.ensures.seats)
     ∙ left_told i _ c.close-left.result.items (cells.kernel_view c.traced.inside.seat)
@@ -91,7 +91,7 @@ returns-clause-known g c =
     subst (AreKnown g.K.Tie.names.roster) (sym (c.without_places.ensures ∙ left_all c.close-left.result.items))
     (left_known ts (g.L.Log.past c.traced.inside.log) all
     (rises g.K.Tie.names.roster h.rises) (left_rises _ c.close-left.ensures.rises) below
-    (λ i. took (get_elem? (map (λ p. p.seat) c.args.ports.items) i)) told g.K.Tie.names.roster refl)
+    (λ i. took (get_elem? (map (λ p. p.core.seat) c.args.ports.items) i)) told g.K.Tie.names.roster refl)
 
 pub returns-clause-due : goal.returns-clause-due
 returns-clause-due g c =
@@ -105,30 +105,30 @@ returns-clause-due g c =
     let below : AreBelow (length ts) all =
     subst (λ n. AreBelow n all) long (left_below _ _ c.close-left.ensures.within) in
     let told : (t i : ℕ) → place ts t ≡ Some i
-    → took (get_elem? (map (λ p. p.seat) ports) i) ++ left_for i all ≡ later_due past t =
+    → took (get_elem? (map (λ p. p.core.seat) ports) i) ++ left_for i all ≡ later_due past t =
     λ t i at. ap (λ ss. took (get_elem? ss i) ++ left_for i all) (sym c.gather.ensures.seats)
     ∙ left_told i _ c.close-left.result.items (cells.kernel_view c.traced.inside.seat)
     (c.close-left.ensures.told i (subst (λ n. i < n) (sym long) (place_below ts t i at))) ∙ (h.told.tied t i at).0 in
     let left = map (λ x. x.1) all in
     let whole =
     left_due ts past all (rises g.K.Tie.names.roster h.rises) (left_rises _ c.close-left.ensures.rises) below
-    (λ i. took (get_elem? (map (λ p. p.seat) ports) i)) told in
+    (λ i. took (get_elem? (map (λ p. p.core.seat) ports) i)) told in
     let many : length ports ≡ length ts = c.requires.all.0 ∙ ap (λ y. y.slots) (sym c.args.self.cells_are) ∙ long in
-    subst (λ l. AreDue g.K.Tie.names.roster (map (λ p. collected p.last.trace p.thread (taken p.seat)) ports) l past)
+    subst (λ l. AreDue g.K.Tie.names.roster (map (λ p. collected p.core.last.trace p.core.thread (taken p.core.seat)) ports) l past)
     (sym (c.without_places.ensures ∙ left_all c.close-left.result.items))
-    (all_due (λ p. p.seat) (λ p. collected p.last.trace p.thread (taken p.seat)) g.K.Tie.names.roster past left ports
+    (all_due (λ p. p.core.seat) (λ p. collected p.core.last.trace p.core.thread (taken p.core.seat)) g.K.Tie.names.roster past left ports
     many (λ t k p at is mine.
-    let same = place_same ts p.thread t k (p.thread_is ∙ ap Some (c.requires.all.1 k p at)) is in
+    let same = place_same ts p.core.thread t k (p.thread_is ∙ ap Some (c.requires.all.1 k p at)) is in
     let extends =
-    subst (λ q. AreSeen q (map (λ p. p.seen.trace) ports)) c.traced.invariant.3.1 c.gather.ensures.seen k p.seen.trace
-    (at_map (λ q. q.seen.trace) ports k p at) in
+    subst (λ q. AreSeen q (map (λ p. p.core.seen.trace) ports)) c.traced.invariant.3.1 c.gather.ensures.seen k p.core.seen.trace
+    (at_map (λ q. q.core.seen.trace) ports k p at) in
     let now = sym (returns-clause-asked g c t k is)
-    ∙ at_port (λ q. q.seat) (λ q. []) g.K.Tie.names.roster past left (λ q. q.asked.calls) ports k p [] at in
+    ∙ at_port (λ q. q.core.seat) (λ q. []) g.K.Tie.names.roster past left (λ q. q.core.asked.calls) ports k p [] at in
     let o = h.told.owed t k is in
-    port_due past p.seen.trace p.last.trace p.asked.calls p.thread t (taken p.seat)
-    (of_thread t left) p.scratch.turn.pending _ same extends p.since now p.calls_are p.later o.later o.whole mine) whole)
+    port_due past p.core.seen.trace p.core.last.trace p.core.asked.calls p.core.thread t (taken p.core.seat)
+    (of_thread t left) p.core.turn.pending _ same extends p.since now p.calls_are p.later o.later o.whole mine) whole)
 
 pub returns-clause-seen : goal.returns-clause-seen
 returns-clause-seen g c =
-    subst (λ past. AreSeen past (map (λ p. p.seen.trace) c.args.ports.items)) c.traced.invariant.3.1
+    subst (λ past. AreSeen past (map (λ p. p.core.seen.trace) c.args.ports.items)) c.traced.invariant.3.1
     c.gather.ensures.seen

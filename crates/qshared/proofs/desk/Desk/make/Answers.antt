@@ -3,8 +3,8 @@ use Rattle.qshared.proofs.Common.{length-map, map-set, KernelCalls, AreCallsOf, 
 use Rattle.qshared.specs.Performing.{called_by}
 use Rattle.qshared.proofs.Busy.{is_event}
 use Rattle.qshared.proofs.Lists.{comes, kept_names, told_list, heard_event, heard_refused}
-use Rattle.qshared.proofs.desk.Desk.call.Goals as goal
-use Rattle.qshared.proofs.desk.Desk.call.Goals.{then-is_ok, else-is_ok}
+use Rattle.qshared.proofs.desk.Desk.make.Goals as goal
+use Rattle.qshared.proofs.desk.Desk.make.Goals.{then-is_ok, else-is_ok}
 
 pub agree-requires : goal.agree-requires
 agree-requires g c = record {

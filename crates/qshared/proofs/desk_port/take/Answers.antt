@@ -2,7 +2,7 @@ use Rattle.qshared.proofs.Common.{ap, sym, ◌∙◌, completions_in, origin_of,
 use Rattle.qhandoff.specs.Words as cells
 use Rattle.qshared.proofs.Deliveries.{polled}
 use Rattle.qshared.proofs.Rows.{map_snoc}
-use Rattle.qshared.proofs.port.waiting.take.Goals as goal
+use Rattle.qshared.proofs.desk_port.take.Goals as goal
 
 pub learn-requires : goal.learn-requires
 learn-requires c =

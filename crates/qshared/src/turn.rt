@@ -1,27 +1,17 @@
-//! The data that a port brings to the lock.
+//! The data that a port brings to a desk.
 
 ghost use Rattle.std.specs.Prelude.{◌≡◌, [], false, IfOk, IfSome, None};
 
 use crate::log::Log;
 use crate::logged_copy::LoggedCopy;
-use crate::tie::Tie;
 use arrayvec::ArrayVec;
 use qkernel::completions::Completions;
 use qkernel::thread_ref::ThreadRef;
 use qmodel::call::{Call, Completion};
 use std::alloc::{AllocError, Global};
-use std::sync::ledger::Share;
 
-/// The data of a port's turn under the lock, and its share of the count of all events.
-#[derive(Drop)]
-pub struct CallScratch<K: Tie> {
-    pub(crate) share: Share<K>,
-    pub(crate) turn: Turn,
-}
-
-/// The index of a port's thread, room for the completions of one call, and other data for calls under the
-/// lock. They are kept in the port and not under the lock, so that their cache lines stay with the port's
-/// thread.
+/// The index of a port's thread, room for the completions of one call, and other data for its calls. They are
+/// kept in the port and not under the lock, so that their cache lines stay with the port's thread.
 #[derive(Drop)]
 pub struct Turn {
     pub(crate) alloc: Global,
@@ -113,22 +103,5 @@ impl Turn {
             own: None,
             copies: None,
         })
-    }
-}
-
-impl<K: Tie> CallScratch<K> {
-    /// Makes the room for the port of the thread at this index.
-    pub(crate) fn new(
-        alloc: Global,
-        seat: ThreadRef,
-        share: Share<K>,
-    ) -> Result<CallScratch<K>, AllocError>
-        ensures seat { IfOk result (λ scratch. scratch.turn.seat ≡ seat) }
-        ensures share { IfOk result (λ scratch. scratch.share ≡ share) }
-        ensures none { IfOk result (λ scratch. (scratch.turn.completions.value.items ≡ [])
-            × (scratch.turn.pending ≡ false)) }
-    {
-        let turn = Turn::new(alloc, seat)?;
-        Ok(CallScratch { share, turn })
     }
 }
