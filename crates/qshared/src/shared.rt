@@ -385,12 +385,12 @@ impl<K: Tie> Shared<K, RecordedHistory<K>> {
     }
 }
 
-impl<K: Tie> Shared<K, GhostHistory<K>> {
+impl<K: Tie> Shared<K, GhostHistory> {
     /// Opens a kernel of these parts that keeps no history. Returns a port for each thread, in ascending
     /// order of thread number. The limit of the parts is ignored. The only error is `NoMemory`, which drops
     /// the parts.
     /// `course.rt` of `bench/programs/qroundtrips` opens and closes one.
-    pub fn open(parts: Parts) -> Result<(Shared<K, GhostHistory<K>>, Vec<Port<K>>), Errno>
+    pub fn open(parts: Parts) -> Result<(Shared<K, GhostHistory>, Vec<Port<K>>), Errno>
         requires named { AreParts K.names K.name K.parts parts }
         ensures ports { IfOk result (λ r. AreAll (λ p. thread_of p.core.seat) K.names.cells.slots r.1.items) }
         ensures new { IfOk result (λ r. (k : ℕ) (p : _) → get_elem? r.1.items k ≡ some p → (p.calls ≡ 0)
@@ -398,7 +398,8 @@ impl<K: Tie> Shared<K, GhostHistory<K>> {
             × (p.core.asked.calls ≡ []) × (p.core.seen.trace ≡ [])) }
         ensures error { IfErr result (λ e. e ≡ Errno.NoMemory) }
     {
-        Ok(Shared::with_log(parts, GhostHistory::new())?)
+        let log = GhostHistory::new(&parts.kernel);
+        Ok(Shared::with_log(parts, log)?)
     }
 
     /// Closes the kernel and takes back all its ports, in ascending order of thread number. Returns the

@@ -39,11 +39,11 @@ new-port-requires-clause-seat g c =
     (at_index c.args.seats.items (length c.loop-seat.yielded) c.in-Some.seat t.0 t.1) in
     let below : c.thread.result < length c.args.threads.now =
     omega (arith, c.thread.ensures.within, ap (λ z. z.slots) row.0, c.requires.sized) in
-    let turned : c.in_ok-scratch.scratch.turn.seat.thread ≡ c.index-threads-thread.result =
-    ap (λ s. s.thread) c.in_ok-scratch.ensures.seat ∙ c.in-Some-seat.ensures.thread in (
+    let turned : c.in_ok-turn.turn.seat.thread ≡ c.index-threads-thread.result =
+    ap (λ s. s.thread) c.in_ok-turn.ensures.seat ∙ c.in-Some-seat.ensures.thread in (
       row.0,
       place_found (threads_of g.K.Tie.names.roster) c.args.threads.now c.thread.result
-          c.index-threads-thread.result c.in_ok-scratch.scratch.turn.seat.thread
+          c.index-threads-thread.result c.in_ok-turn.turn.seat.thread
           (rises g.K.Tie.names.roster c.requires.roster.0) c.requires.roster.1 below
           (turned ∙ c.index-threads-thread.is) ∙ ap Some c.thread.ensures.number,
     )
@@ -69,10 +69,10 @@ new-port-requires-clause-scratch g c =
     let there = ap (λ r. place (threads_of r) c.index-threads-thread.result) (sym c.requires.roster.2)
     ∙ seated _ c.index-threads-thread.result _ c.in-Some-seat.place c.in-Some-seat.ensures.seat
     c.in-Some-seat.ensures.thread refl in (
-      ap (λ s. s.index) c.in_ok-scratch.ensures.seat ∙ same_Some _ _ (sym there ∙ here)
+      ap (λ s. s.index) c.in_ok-turn.ensures.seat ∙ same_Some _ _ (sym there ∙ here)
           ∙ c.thread.ensures.number,
-      c.in_ok-scratch.ensures.none.0,
-      c.in_ok-scratch.ensures.none.1,
+      c.in_ok-turn.ensures.none.0,
+      c.in_ok-turn.ensures.none.1,
     )
 
 pub unreachable-requires-in_default-seat : goal.unreachable-requires-in_default-seat

@@ -3,8 +3,8 @@ use Rattle.qshared.proofs.Common.{length-map, map-set, KernelCalls, AreCallsOf, 
 use Rattle.qshared.specs.Performing.{called_by}
 use Rattle.qshared.proofs.Busy.{is_event}
 use Rattle.qshared.proofs.Lists.{comes, kept_names, told_list, heard_event, heard_refused}
+use Rattle.qshared.specs.UnderLock.{roster_of}
 use Rattle.qshared.proofs.desk.Desk.make.Goals as goal
-use Rattle.qshared.proofs.desk.Desk.make.Goals.{then-is_ok, else-is_ok}
 
 pub agree-requires : goal.agree-requires
 agree-requires g c = record {
@@ -75,25 +75,7 @@ returns-clause-came g c =
     let came = comes (roster_of c.args.self.now.traced) g.L.Log.refuses g.L.Log.admits [] c.args.turn.now.seat.thread
     c.index-cell.result c.args.call.now c.args.self.now.traced c.perform-made.new.self
     (c.requires.seat.0 ∙ ap Some (sym c.index-cell.ensures)) p c.perform-made.ensures.performs
-    c.perform-made.new.seen.trace c.perform-made.ensures.seen in
-    elim c.if-is_ok.branch [
-      | then-is_ok w ↦ rw w.scratch-is came
-      | else-is_ok w ↦ rw w.scratch-is came
-    ]
-
-pub returns-clause-busy : goal.returns-clause-busy
-returns-clause-busy g c =
-    elim c.if-is_ok.branch [
-      | then-is_ok w ↦ rw w.scratch-is c.perform-made.ensures.busy
-      | else-is_ok w ↦ rw w.scratch-is c.perform-made.ensures.busy
-    ]
-
-pub returns-clause-idle : goal.returns-clause-idle
-returns-clause-idle g c =
-    elim c.if-is_ok.branch [
-      | then-is_ok w ↦ rw w.scratch-is c.perform-made.ensures.idle
-      | else-is_ok w ↦ rw w.scratch-is c.perform-made.ensures.idle
-    ]
+    c.perform-made.new.seen.trace c.perform-made.ensures.seen in came
 
 pub perform-made-requires-clause-pending : goal.perform-made-requires-clause-pending
 perform-made-requires-clause-pending g c = λ p.

@@ -1,4 +1,4 @@
-use Rattle.qshared.proofs.Common.{◌≡◌, ap, sym, subst, ◌∙◌, place, threads_of, get_or}
+use Rattle.qshared.proofs.Common.{◌≡◌, ap, sym, subst, ◌∙◌, place, threads_of}
 use Rattle.qshared.proofs.Busy.{never_gives_up}
 use Rattle.qshared.specs.Performing.{called_by}
 use Rattle.qshared.proofs.lock_state.LockState.call.Goals as goal
@@ -9,20 +9,15 @@ call-made-requires g c =
     let port = c.requires.port in
     record {
       cells = (
-        c.requires.cells.0 ∙ sym named.1.0,
+        c.requires.cells.0 ∙ sym named.1,
         c.requires.cells.1.0 ∙ sym named.0,
-        c.requires.cells.1.1 ∙ sym named.1.1,
+        c.requires.cells.1.1 ∙ sym named.2,
       );
       port = record {
-        cells = port.cells ∙ sym named.1.0;
+        cells = port.cells ∙ sym named.1;
         at = ap (λ r. place (threads_of r) c.args.port.now.thread) named.0 ∙ port.at;
         asked = rw (c.args.self.now.named.1) port.asked;
-        seen = port.seen ∙ sym named.1.1;
+        seen = port.seen ∙ sym named.2;
       };
       copies = c.requires.copies;
     }
-
-pub returns-clause-busy : goal.returns-clause-busy
-returns-clause-busy g c =
-    never_gives_up (called_by c.call-made.result c.call-made.new.self.turn.own c.args.call.now) _
-    c.call-made.ensures.busy

@@ -19,7 +19,7 @@ returns-then-is_down-clause-performs g c =
     let seat = c.args.turn.now.seat in
     let at = subst (λ u. place (threads_of (roster_of u)) seat.thread ≡ Some seat.index) (sym c.self.view_is)
     c.requires.seat in
-    rw (← c.self.view_is) (
+    rw (← c.self.view_is, c.look.ensures.same) (
       refl,
       refl,
       inl (
@@ -35,7 +35,7 @@ returns-then-turn-clause-performs g c =
     let t = seat.thread in
     let at = subst (λ u. place (threads_of (roster_of u)) t ≡ Some seat.index) (sym c.self.view_is) c.requires.seat in
     let up = sym c.is_down.ensures ∙ c.if-is_down.false in
-    rw (← c.self.view_is) (
+    rw (← c.self.view_is, c.look.ensures.same) (
       refl,
       refl,
       inl (is_pending _ _ _ _ _ _ c.self.invariant.1 t seat.index at up
@@ -54,10 +54,10 @@ returns-then-not-open-clause-performs g c =
     ∙ ap Some (sym c.index-place.ensures) in
     let up = sym c.is_down.ensures ∙ c.if-is_down.false in
     let busy = c.if-not-open.ensures.opened in
-    rw (← c.self.view_is, busy.0, c.open.ensures.cells, ap (λ h. h.name) c.look.ensures.same) (
+    rw (← c.self.view_is, busy.0, c.open.ensures.cells, c.look.ensures.same) (
       refl,
       refl,
-      inl (is_busy _ _ _ _ _ _ c.self.invariant.1 t c.index-place.result at up busy.1.0),
+      inl (is_busy _ _ _ _ _ _ c.self.invariant.1 t c.index-place.result at up busy.1),
     )
 
 -- ---- the call
@@ -65,8 +65,9 @@ returns-then-not-open-clause-performs g c =
 pub hand_out-requires-clause-place : goal.hand_out-requires-clause-place
 hand_out-requires-clause-place g c =
     let t = c.args.turn.now.seat.thread in
-    ap (λ ms. place (threads_of ms) t) c.make_at.ensures.roster ∙ ap (λ ts. place ts t) c.self.invariant.1.threads_are
-    ∙ c.requires.seat
+    ap (λ ms. place (threads_of ms) t) c.make_at.ensures.roster
+    ∙ subst (λ u. place (threads_of (roster_of u)) t ≡ Some c.args.turn.now.seat.index) (sym c.self.view_is)
+    c.requires.seat
 
 pub invariant_of-self-in-Err : goal.invariant_of-self-in-Err
 invariant_of-self-in-Err g c =
@@ -108,7 +109,7 @@ returns-in-Err-clause-performs g c =
       whole,
       same.0,
       c.cancel.ensures.cells ∙ c.open.ensures.cells,
-      ap (λ h. h.name) c.look.ensures.same,
+      c.look.ensures.same,
     ) (
       refl,
       refl,
@@ -129,7 +130,8 @@ event-requires-clause-roster g c = c.make_at.ensures.roster ∙ matches_roster _
 pub event-requires-clause-seat : goal.event-requires-clause-seat
 event-requires-clause-seat g c = seat_kept c.args.turn.now.seat.thread _ _ c.make_at.ensures.roster
     ∙ seat_at_place _ c.args.turn.now.seat
-    (ap (λ ts. place ts c.args.turn.now.seat.thread) c.self.invariant.1.threads_are ∙ c.requires.seat)
+    (subst (λ u. place (threads_of (roster_of u)) c.args.turn.now.seat.thread ≡ Some c.args.turn.now.seat.index)
+    (sym c.self.view_is) c.requires.seat)
 
 pub event-requires-clause-lawful : goal.event-requires-clause-lawful
 event-requires-clause-lawful g c =
@@ -217,7 +219,7 @@ invariant_of-self-2 g c =
     c.of-asking.ensures ∙ ap (λ x. with_event t c.args.call.now x.items c.look.new.self.trace) c.deref-2.ensures
     ∙ ap (λ h. with_event t c.args.call.now X h.trace) c.look.ensures.same
     ∙ ap (λ p. with_event t c.args.call.now X p) c.self.invariant.2 in (
-      c.event.ensures.same ∙ c.note.ensures.same.1 ∙ c.self.invariant.0,
+      c.event.ensures.same ∙ c.note.ensures.same.1 ∙ c.self.invariant.0 ∙ sym c.make_at.ensures.roster,
       rw (past, c.make_at.ensures.roster, c.hand_out.ensures.cells ∙ c.open.ensures.cells)
           (held_after _ _ _ _ _ _ c.self.invariant.1 c.args.turn.now.seat.thread c.index-place.result at up closed
           wide c.in_default.ensures.few c.args.call.now c.make_at.new.completions.items c.make_at.new.kernel event
@@ -268,11 +270,12 @@ event-requires-clause-up g c =
 pub make_at-requires-clause-seat : goal.make_at-requires-clause-seat
 make_at-requires-clause-seat g c =
     seat_at_place _ c.args.turn.now.seat
-    (ap (λ ts. place ts c.args.turn.now.seat.thread) c.self.invariant.1.threads_are ∙ c.requires.seat)
+    (subst (λ u. place (threads_of (roster_of u)) c.args.turn.now.seat.thread ≡ Some c.args.turn.now.seat.index)
+    (sym c.self.view_is) c.requires.seat)
 
 pub hand_out-requires-clause-seen : goal.hand_out-requires-clause-seen
 hand_out-requires-clause-seen g c = c.look-2.ensures.name ∙ c.look.ensures.name ∙ c.requires.seen
-    ∙ sym c.requires.cells.1.1
+    ∙ sym c.requires.cells.2
 
 pub hand_out-requires-clause-arrive : goal.hand_out-requires-clause-arrive
 hand_out-requires-clause-arrive g c =
@@ -294,7 +297,7 @@ hand_out-requires-clause-arrive g c =
     c.of-asking.ensures ∙ ap (λ x. with_event t c.args.call.now x.items c.look.new.self.trace) c.deref-2.ensures
     ∙ ap (λ h. with_event t c.args.call.now X h.trace) c.look.ensures.same
     ∙ ap (λ p. with_event t c.args.call.now X p) c.self.invariant.2 in
-    rw (c.requires.cells.1.0, c.make_at.ensures.roster, opened, seen)
+    rw (c.requires.cells.1 ∙ ap roster_of (sym c.self.view_is), c.make_at.ensures.roster, opened, seen)
     (may_arrive _ _ _ _ _ _ c.self.invariant.1 c.args.turn.now.seat.thread c.index-place.result at up closed wide
     c.in_default.ensures.few c.args.call.now c.make_at.new.completions.items c.make_at.new.kernel event)
 
