@@ -31,38 +31,63 @@ static int enter_name(const char *name, int chid) {
     return error;
 }
 
+/* Returns the channel for a name: the handle's, which then has its name, or a new one. Returns -1 and sets errno
+ * on an error. */
+static int channel_for_name(dispatch_t *dpp) {
+    unsigned flags = _NTO_CHF_UNBLOCK | _NTO_CHF_DISCONNECT | _NTO_CHF_COID_DISCONNECT;
+    if (!dpp) return ChannelCreate(flags);
+    pthread_mutex_lock(&dpp->lock);
+    int chid = dpp->has_name ? fail(EBUSY) : channel_of(dpp, flags);
+    if (chid != -1) dpp->has_name = true;
+    pthread_mutex_unlock(&dpp->lock);
+    return chid;
+}
+
+/* Gives up the channel for a name: destroys it, or leaves the handle without a name. */
+static void leave_channel(dispatch_t *dpp, int chid) {
+    if (!dpp) {
+        ChannelDestroy(chid);
+        return;
+    }
+    pthread_mutex_lock(&dpp->lock);
+    dpp->has_name = false;
+    pthread_mutex_unlock(&dpp->lock);
+}
+
 name_attach_t *name_attach(dispatch_t *dpp, const char *path, unsigned flags) {
     name_attach_t *attach = calloc(1, sizeof *attach);
     int chid = -1, error = attach ? wrong_name(path) : ENOMEM;
     (void)flags;
-    if (!error && dpp) error = ENOTSUP;
-    if (!error) chid = ChannelCreate(_NTO_CHF_UNBLOCK | _NTO_CHF_DISCONNECT | _NTO_CHF_COID_DISCONNECT);
+    if (!error) chid = channel_for_name(dpp);
     if (chid == -1 && !error) error = errno == EAGAIN ? EBUSY : errno;
     if (!error) error = enter_name(path, chid);
     if (!error) {
         attach->chid = chid;
+        attach->dpp = dpp;
         return attach;
     }
-    if (chid != -1) ChannelDestroy(chid);
+    if (chid != -1) leave_channel(dpp, chid);
     free(attach);
     errno = error;
     return NULL;
 }
 
-int name_detach(name_attach_t *attach, unsigned flags) {
-    bool found = false;
-    (void)flags;
-    if (!attach) return fail(EINVAL);
-    if (neutrino_remote()) found = !neutrino_remote_unname(attach->chid);
+/* Removes the first name of a channel from the program's table. Returns whether there was one. */
+static bool remove_name(int chid) {
+    int at = 0;
     hold();
-    for (int at = 0; at < NAMES; at++) {
-        if (!*names[at].name || names[at].chid != attach->chid) continue;
-        *names[at].name = 0;
-        found = true;
-    }
+    while (at < NAMES && (!*names[at].name || names[at].chid != chid)) at++;
+    if (at < NAMES) *names[at].name = 0;
     release();
+    return at < NAMES;
+}
+
+int name_detach(name_attach_t *attach, unsigned flags) {
+    if (!attach) return fail(EINVAL);
+    bool found = neutrino_remote() ? !neutrino_remote_unname(attach->chid) : remove_name(attach->chid);
     if (!found) return fail(EINVAL);
-    ChannelDestroy(attach->chid);
+    leave_channel(attach->dpp, attach->chid);
+    if (attach->dpp && !(flags & NAME_FLAG_DETACH_SAVEDPP)) dispatch_destroy(attach->dpp);
     free(attach);
     return 0;
 }

@@ -26,7 +26,6 @@ static void wrong_names(const char *right) {
     check(!name_attach(NULL, "/x", 0) && errno == EINVAL);
     check(!name_attach(NULL, "a/../b", 0) && errno == EINVAL);
     check(!name_attach(NULL, longest, 0) && errno == ENAMETOOLONG);
-    check(!name_attach((dispatch_t *)longest, "x", 0) && errno == ENOTSUP);
     check(!name_attach(NULL, right, 0) && errno == EEXIST);
     fails(name_open(NULL, 0), EINVAL);
     fails(name_open("", 0), EINVAL);

@@ -68,15 +68,16 @@ extern "C" {
 #define _NTO_MI_BITS_DIFF 0x800
 #define _NTO_MI_BITS_64 0
 
-/* A timeout ends this state, and _NTO_TIMEOUT_SEND, _NTO_TIMEOUT_RECEIVE and _NTO_TIMEOUT_REPLY. */
-#define _NTO_TIMEOUT_JOIN (1 << 12)
+/* States that a timeout ends, with _NTO_TIMEOUT_SEND, _NTO_TIMEOUT_RECEIVE and _NTO_TIMEOUT_REPLY. In these
+ * states the thread waits in a function of the host, or in InterruptWait. */
+#define _NTO_TIMEOUT_CONDVAR (1 << 10)   /* pthread_cond_wait, pthread_cond_timedwait */
+#define _NTO_TIMEOUT_INTR (1 << 11)      /* InterruptWait */
+#define _NTO_TIMEOUT_JOIN (1 << 12)      /* pthread_join */
+#define _NTO_TIMEOUT_MUTEX (1 << 13)     /* pthread_mutex_lock, pthread_mutex_timedlock */
+#define _NTO_TIMEOUT_NANOSLEEP (1 << 14) /* nanosleep, clock_nanosleep, sleep, usleep, delay */
+#define _NTO_TIMEOUT_SEM (1 << 15)       /* sem_wait, sem_timedwait */
 
-/* States that no timeout ends. TimerTimeout ignores them if flags also has a state that a timeout ends. */
-#define _NTO_TIMEOUT_CONDVAR (1 << 10)
-#define _NTO_TIMEOUT_INTR (1 << 11)
-#define _NTO_TIMEOUT_MUTEX (1 << 13)
-#define _NTO_TIMEOUT_NANOSLEEP (1 << 14)
-#define _NTO_TIMEOUT_SEM (1 << 15)
+/* States that no timeout ends: TimerTimeout fails with EINVAL. */
 #define _NTO_TIMEOUT_SIGSUSPEND (1 << 16)
 #define _NTO_TIMEOUT_SIGWAITINFO (1 << 17)
 
@@ -98,6 +99,21 @@ typedef int rcvid_t;
 int ChannelCreate(unsigned flags);
 int ChannelCreate_r(unsigned flags);
 
+/* A channel's own pool of pulses, and the event that tells its server that the pool is used up. */
+struct nto_channel_config {
+    struct sigevent event;
+    unsigned num_pulses;
+    unsigned rearm_threshold;
+    unsigned options;
+    unsigned reserved[3];
+};
+
+/* ChannelCreate with a pool of pulses. Each channel has 1,024 places for pulses here, whatever num_pulses
+ * says, and the event is never delivered: the sender of one pulse more gets EAGAIN. -1: EINVAL (no config, no
+ * pulses, or more than 1,024), and the errors of ChannelCreate. */
+int ChannelCreatePulsePool(unsigned flags, const struct nto_channel_config *config);
+int ChannelCreatePulsePool_r(unsigned flags, const struct nto_channel_config *config);
+
 /* Destroys a channel. MsgSend and MsgReceive on it are cancelled with ESRCH. EINVAL: no such channel. */
 int ChannelDestroy(int chid);
 int ChannelDestroy_r(int chid);
@@ -106,12 +122,20 @@ int ChannelDestroy_r(int chid);
 #define _NTO_SIDE_CHANNEL 0x40000000
 #define _NTO_GLOBAL_CHANNEL 0 /* QNX has channels of the whole system; here they are the program's */
 
+/* The system manager's process, channel and connection. There is none: ConnectAttach to it fails with ESRCH,
+ * and a MsgSend over its coid with EBADF. */
+#define SYSMGR_PID 1
+#define SYSMGR_CHID 1
+#define SYSMGR_COID _NTO_SIDE_CHANNEL
+#define SYSMGR_HANDLE 0
+
 /* Flags of a connection. Each is kept, and changes nothing. */
 #define _NTO_COF_CLOEXEC 0x1
 #define _NTO_COF_DEAD 0x2
 #define _NTO_COF_NOSHARE 0x40
 #define _NTO_COF_NETCON 0x80
 #define _NTO_COF_NONBLOCK 0x100
+#define _NTO_COF_REG_EVENTS 0x400
 
 /* Attaches to a channel. Returns the coid, which has the bit _NTO_SIDE_CHANNEL if index has it, or -1: ESRCH
  * (another node or process, or no such channel), EAGAIN (1,024 connections). */
@@ -171,6 +195,19 @@ struct _client_info {
 /* Fills in the process of an scoid, with at most ngroups groups. EINVAL: no such scoid. */
 int ConnectClientInfo(int scoid, struct _client_info *info, int ngroups);
 int ConnectClientInfo_r(int scoid, struct _client_info *info, int ngroups);
+
+#define _NTO_CLIENTINFO_GETGROUPS 1
+#define _NTO_CLIENTINFO_GETTYPEID 2
+
+/* ConnectClientInfo into memory that it allocates: *info_pp has to be null, or the result of an earlier call.
+ * With _NTO_CLIENTINFO_GETGROUPS it fills in all groups of the client, which may be more than
+ * __NGROUPS_MAX, or the first 8 groups of another program. EFAULT: info_pp is null; EINVAL: another flag, or
+ * no such scoid; ENOMEM. */
+int ConnectClientInfoExt(int scoid, struct _client_info **info_pp, int flags);
+int ConnectClientInfoExt_r(int scoid, struct _client_info **info_pp, int flags);
+
+/* Frees *info_pp, and makes it null. EFAULT: info_pp is null. */
+int ClientInfoExtFree(struct _client_info **info_pp);
 
 /* ---- messages */
 
@@ -250,6 +287,11 @@ int MsgInfo_r(rcvid_t rcvid, struct _msg_info *info);
 int MsgCurrent(rcvid_t rcvid);
 int MsgCurrent_r(rcvid_t rcvid);
 
+/* Says that this thread works on the message later: the thread gets its own priority back, and the message
+ * stays held. The cookie isn't used. ESRCH. */
+int MsgPause(rcvid_t rcvid, unsigned cookie);
+int MsgPause_r(rcvid_t rcvid, unsigned cookie);
+
 #define _NTO_KEYDATA_CALCULATE 0
 #define _NTO_KEYDATA_VERIFY 1
 #define _NTO_KEYDATA_PATHSIGN 0x8000
@@ -318,10 +360,11 @@ int MsgUnregisterEvent_r(const struct sigevent *event);
 /* Sets the timeout of this thread's next call, as timer_timeout of time.h does. The call ends with ETIMEDOUT
  * once *ntime nanoseconds have passed and it is in one of the states of flags. But a client whose message is
  * received on a channel with _NTO_CHF_UNBLOCK stays blocked, and its server gets an unblock pulse. If ntime
- * is null, the call doesn't wait in these states. _NTO_TIMEOUT_JOIN ends the next pthread_join. With
- * TIMER_ABSTIME in flags, *ntime is a time of the clock id. flags 0 removes the timeout. *otime gets the
- * timeout that is replaced, or 0. EINVAL: no such state, another event than SIGEV_UNBLOCK, another clock than
- * CLOCK_MONOTONIC and CLOCK_REALTIME. */
+ * is null, the call doesn't wait in these states. The next call is a call of this header or a function that
+ * the states name; each of them uses up the timeout, whether it waits or not. With TIMER_ABSTIME in flags,
+ * *ntime is a time of the clock id. flags 0 removes the timeout. *otime gets the timeout that is replaced, or
+ * 0. EINVAL: no such state, another event than SIGEV_UNBLOCK, another clock than CLOCK_MONOTONIC and
+ * CLOCK_REALTIME. */
 int TimerTimeout(clockid_t id, int flags, const struct sigevent *notify, const uint64_t *ntime, uint64_t *otime);
 int TimerTimeout_r(clockid_t id, int flags, const struct sigevent *notify, const uint64_t *ntime, uint64_t *otime);
 
@@ -391,16 +434,22 @@ struct _thread_name {
 #define _NTO_TCTL_IO_PRIV 2
 #define _NTO_TCTL_IO_LEVEL 3
 #define _NTO_TCTL_RUNMASK 4
-#define _NTO_TCTL_NAME 11 /* data is a struct _thread_name */
+#define _NTO_TCTL_RUNMASK_GET_AND_SET 5 /* data is an unsigned: the new mask, and then the old one */
+#define _NTO_TCTL_NAME 11               /* data is a struct _thread_name */
+#define _NTO_TCTL_THREADS_HOLD 12       /* these four fail with ENOTSUP: no thread stops another one */
+#define _NTO_TCTL_THREADS_CONT 13
+#define _NTO_TCTL_ONE_THREAD_HOLD 14
+#define _NTO_TCTL_ONE_THREAD_CONT 15
 
-/* Controls the calling thread. EINVAL: another command; EFAULT: a name's data are null; E2BIG: a name of over
- * 100 bytes. */
+/* Controls the calling thread. A mask of _NTO_TCTL_RUNMASK_GET_AND_SET is kept for the thread, and changes
+ * nothing. EINVAL: another command; EFAULT: the data of a name or of a mask are null; E2BIG: a name of over
+ * 100 bytes; ENOTSUP. */
 int ThreadCtl(int cmd, void *data);
 int ThreadCtl_r(int cmd, void *data);
 
-/* SchedSet sets the priority of a thread (0: the caller). SchedGet gets it, and returns the policy that was
- * last set, or SCHED_RR. A tid may also be the result of pthread_self. ESRCH: another process, or no such
- * thread; EINVAL, EFAULT. */
+/* SchedSet sets the priority of a thread (0: the caller). With SCHED_ADJTOHEAD or SCHED_ADJTOTAIL it changes
+ * nothing. SchedGet gets the priority, and returns the policy that was last set, or SCHED_RR. A tid may also
+ * be the result of pthread_self. ESRCH: another process, or no such thread; EINVAL, EFAULT. */
 int SchedSet(pid_t pid, int tid, int policy, const struct sched_param *param);
 int SchedSet_r(pid_t pid, int tid, int policy, const struct sched_param *param);
 int SchedGet(pid_t pid, int tid, struct sched_param *param);
@@ -426,6 +475,45 @@ static inline uint64_t ClockCycles(void) {
     clock_gettime(CLOCK_MONOTONIC, &now);
     return (uint64_t)now.tv_sec * 1000000000u + (uint64_t)now.tv_nsec;
 }
+
+/* ---- interrupts
+ *
+ * An interrupt line, 0 to 255, is an eventfd of the host. A program or a test raises the line by a write to
+ * the eventfd, which neutrino_interrupt_line returns. */
+
+#define _NTO_INTR_FLAGS_END 1u /* these four change nothing, since the masks of each event are counted */
+#define _NTO_INTR_FLAGS_NO_UNMASK 2u
+#define _NTO_INTR_FLAGS_PROCESS 4u
+#define _NTO_INTR_FLAGS_TRK_MSK 8u
+
+/* Attaches an event to a line. When the line is raised, it is masked once for each of its events, and the
+ * events are delivered: SIGEV_PULSE, SIGEV_SIGNAL, SIGEV_SIGNAL_CODE and SIGEV_NONE as by MsgDeliverEvent,
+ * SIGEV_SIGNAL_THREAD to the thread that attached, and SIGEV_INTR to its InterruptWait. The receiver ends the
+ * mask by InterruptUnmask. A line that is raised while it is masked delivers once more when it is unmasked.
+ * No privilege is needed. Returns an id, or -1: EINVAL (no such line, flag or event), EFAULT (no event),
+ * EAGAIN (64 events are attached, or the host has no file left). */
+int InterruptAttachEvent(int intr, const struct sigevent *event, unsigned flags);
+int InterruptAttachEvent_r(int intr, const struct sigevent *event, unsigned flags);
+
+/* Detaches an event, and ends its masks. EINVAL: no such id. */
+int InterruptDetach(int id);
+int InterruptDetach_r(int id);
+
+/* Mask a line, and end a mask, on behalf of an event or of none (-1). Return the number of masks that the
+ * line has now, or -1 and EINVAL: no such line, or the id is another line's. An unmasked line stays
+ * unmasked. */
+int InterruptMask(int intr, int id);
+int InterruptUnmask(int intr, int id);
+
+/* Waits until an event of SIGEV_INTR that this thread has attached is delivered, or returns at once if one was
+ * delivered since its last InterruptWait. EINVAL: flags isn't 0; ENOTSUP: reserved isn't null; EINTR;
+ * ETIMEDOUT, by TimerTimeout with _NTO_TIMEOUT_INTR. */
+int InterruptWait(int flags, const uint64_t *reserved);
+int InterruptWait_r(int flags, const uint64_t *reserved);
+
+/* Returns the eventfd of a line, which stays open until the program ends. A write of eventfd_write(fd, 1)
+ * raises the line. -1: EINVAL (no such line), EMFILE, and other errors of eventfd. QNX has no such function. */
+int neutrino_interrupt_line(int intr);
 
 /* ---- seeing a run; QNX has no such function
  *
