@@ -3,7 +3,7 @@
  * The lock of a handle protects what is attached. The lock of a context lets dispatch_unblock end exactly the
  * receive of that context: while it has the lock, the thread can't go on to another call. */
 enum { LEAST_ROOM = 2048, HIGHEST_TYPE = UINT16_MAX, FILE_READY = -64, RETRY = 200 }; /* RETRY: microseconds */
-enum attached { MESSAGES, PULSES };
+enum attached { MESSAGES, OTHERS, PULSES }; /* OTHERS: messages that no range has */
 
 typedef int (*handling_function)(message_context_t *ctp, int code, unsigned flags, void *handle);
 
@@ -20,6 +20,7 @@ struct _dispatch {
     int chid; /* -1: it has no channel yet */
     int coid; /* of the pulses about files, or -1 */
     bool owns_channel, has_limit, has_name;
+    bool is_used; /* something is or was attached */
     uint64_t limit;
     size_t room;    /* the bytes of the longest message */
     unsigned parts; /* the most parts of a context */
@@ -66,12 +67,14 @@ int dispatch_destroy(dispatch_t *dpp) {
     return 0;
 }
 
-/* Returns the handle's channel, and creates it with these flags if there is none. The caller has the handle's
- * lock. */
+/* Returns the handle's channel for what is to be attached. If there is none, creates it with these flags. The
+ * caller has the handle's lock. */
 static int channel_of(dispatch_t *dpp, unsigned flags) {
-    if (dpp->chid != -1) return dpp->chid;
-    dpp->chid = ChannelCreate(flags);
-    dpp->owns_channel = dpp->chid != -1;
+    if (dpp->chid == -1) {
+        dpp->chid = ChannelCreate(flags);
+        dpp->owns_channel = dpp->chid != -1;
+    }
+    dpp->is_used |= dpp->chid != -1;
     return dpp->chid;
 }
 
@@ -87,26 +90,23 @@ int dispatch_timeout(dispatch_t *dpp, struct timespec *reltime) {
 
 /* ---- what is attached */
 
-/* Returns the place of the function for a code, or -1. The caller has the lock. */
-static int place_of_code(const dispatch_t *dpp, enum attached kind, int code) {
+/* Returns the place of the first function of a kind for a code from low to high, or -1. The function for other
+ * messages is for each code. The caller has the lock. */
+static int place_of_codes(const dispatch_t *dpp, enum attached kind, int low, int high) {
     for (size_t at = 0; at < dpp->count; at++) {
         const struct attached_function *f = &dpp->functions[at];
-        if (f->kind == kind && code >= f->low && code <= f->high) return (int)at;
+        if (f->kind == kind && (kind == OTHERS || (low <= f->high && high >= f->low))) return (int)at;
     }
     return -1;
 }
 
-static bool is_taken(const dispatch_t *dpp, const struct attached_function *new) {
-    for (size_t at = 0; at < dpp->count; at++) {
-        const struct attached_function *f = &dpp->functions[at];
-        if (f->kind == new->kind &&new->low <= f->high &&new->high >= f->low) return true;
-    }
-    return false;
+static int place_of_code(const dispatch_t *dpp, enum attached kind, int code) {
+    return place_of_codes(dpp, kind, code, code);
 }
 
 /* Attaches a function, and makes sure that there is a channel. Returns 0 or an errno. The caller has the lock. */
 static int add_function(dispatch_t *dpp, const struct attached_function *new) {
-    if (is_taken(dpp, new)) return EINVAL;
+    if (place_of_codes(dpp, new->kind, new->low, new->high) != -1) return EINVAL;
     if (channel_of(dpp, _NTO_CHF_UNBLOCK | _NTO_CHF_DISCONNECT) == -1) return errno;
     struct attached_function *grown = realloc(dpp->functions, (dpp->count + 1) * sizeof *grown);
     if (!grown) return ENOMEM;
@@ -124,9 +124,10 @@ static void remove_function(dispatch_t *dpp, int place) {
 
 int message_attach(dispatch_t *dpp, message_attr_t *attr, int low, int high, handling_function func, void *handle) {
     unsigned flags = attr ? attr->flags : 0;
-    struct attached_function new = {MESSAGES, low, high, flags, func, handle};
-    if (!dpp || !func || low < 0 || high < low || high > HIGHEST_TYPE) return fail(EINVAL);
-    if (flags & ~(MSG_FLAG_CROSS_ENDIAN | MSG_FLAG_DEFAULT_FUNC)) return fail(EINVAL);
+    bool is_range = !(flags & MSG_FLAG_DEFAULT_FUNC);
+    struct attached_function new = {is_range ? MESSAGES : OTHERS, low, high, flags, func, handle};
+    if (!dpp || !func || flags & ~(MSG_FLAG_CROSS_ENDIAN | MSG_FLAG_DEFAULT_FUNC)) return fail(EINVAL);
+    if (is_range && (low < 0 || high < low || high > HIGHEST_TYPE)) return fail(EINVAL);
     pthread_mutex_lock(&dpp->lock);
     int error = add_function(dpp, &new);
     if (!error && attr && attr->msg_max_size > dpp->room) dpp->room = attr->msg_max_size;
@@ -135,16 +136,24 @@ int message_attach(dispatch_t *dpp, message_attr_t *attr, int low, int high, han
     return error ? fail(error) : 0;
 }
 
+/* Returns the place of the function that was attached to exactly these messages, or -1. The caller has the
+ * lock. */
+static int place_of_range(const dispatch_t *dpp, int low, int high) {
+    for (size_t at = 0; at < dpp->count; at++) {
+        const struct attached_function *f = &dpp->functions[at];
+        if (f->kind != PULSES && f->low == low && f->high == high) return (int)at;
+    }
+    return -1;
+}
+
 int message_detach(dispatch_t *dpp, int low, int high, unsigned flags) {
     (void)flags;
     if (!dpp) return fail(EINVAL);
     pthread_mutex_lock(&dpp->lock);
-    int place = place_of_code(dpp, MESSAGES, low);
-    const struct attached_function *f = place == -1 ? NULL : &dpp->functions[place];
-    bool is_whole = f && f->low == low && f->high == high;
-    if (is_whole) remove_function(dpp, place);
+    int place = place_of_range(dpp, low, high);
+    if (place != -1) remove_function(dpp, place);
     pthread_mutex_unlock(&dpp->lock);
-    return is_whole ? 0 : fail(EINVAL);
+    return place == -1 ? fail(EINVAL) : 0;
 }
 
 int message_connect(dispatch_t *dpp, int flags) {
@@ -195,7 +204,9 @@ dispatch_context_t *dispatch_context_alloc(dispatch_t *dpp) {
     if (!dpp) return null_with(EINVAL);
     pthread_mutex_lock(&dpp->lock);
     size_t room = dpp->room, parts = dpp->parts;
+    bool is_used = dpp->is_used;
     pthread_mutex_unlock(&dpp->lock);
+    if (!is_used) return null_with(EINVAL);
     struct context *c = calloc(1, sizeof *c + parts * sizeof(iov_t));
     void *bytes = calloc(1, room);
     if (!c || !bytes) {
@@ -238,23 +249,27 @@ static void end_block(struct context *c, bool is_interrupted) {
 
 static void end_block_of_cancelled(void *c) { end_block(c, true); }
 
-/* Gives a context the room for the handle's longest message, which may have grown, and sets the timeout of the
- * receive. Returns the channel, or -1 and sets errno. */
-static int prepare_block(message_context_t *m) {
+/* Gives a context the room for the handle's longest message, which may have grown. Returns 0 or an errno. */
+static int make_room(message_context_t *m) {
     pthread_mutex_lock(&m->dpp->lock);
     size_t room = m->dpp->room;
-    int chid = m->dpp->chid;
-    bool has_limit = m->dpp->has_limit;
-    uint64_t limit = m->dpp->limit;
     pthread_mutex_unlock(&m->dpp->lock);
-    if (chid == -1) return fail(EINVAL);
-    if (room > m->msg_max_size) {
-        void *longer = realloc(m->msg, room);
-        if (!longer) return fail(ENOMEM);
-        m->msg = longer;
-        m->msg_max_size = room;
-    }
-    if (has_limit && TimerTimeout(CLOCK_MONOTONIC, _NTO_TIMEOUT_RECEIVE, NULL, &limit, NULL)) return -1;
+    if (room <= m->msg_max_size) return 0;
+    void *longer = realloc(m->msg, room);
+    if (!longer) return ENOMEM;
+    m->msg = longer;
+    m->msg_max_size = room;
+    return 0;
+}
+
+/* Returns the handle's channel, and sets the handle's timeout for the next receive. */
+static int limit_receive(dispatch_t *dpp) {
+    pthread_mutex_lock(&dpp->lock);
+    int chid = dpp->chid;
+    bool has_limit = dpp->has_limit;
+    uint64_t limit = dpp->limit;
+    pthread_mutex_unlock(&dpp->lock);
+    if (has_limit) TimerTimeout(CLOCK_MONOTONIC, _NTO_TIMEOUT_RECEIVE, NULL, &limit, NULL);
     return chid;
 }
 
@@ -277,10 +292,11 @@ dispatch_context_t *dispatch_block(dispatch_context_t *ctp) {
     message_context_t *m = &ctp->message_context;
     c->has_event = false;
     if (enter()) return NULL;
-    int chid = prepare_block(m);
-    if (chid == -1) return NULL;
+    int error = make_room(m);
+    if (error) return null_with(error);
     if (!begin_block(c)) return null_with(EINTR);
-    m->rcvid = block_in(c, chid);
+    m->tid = (unsigned)seat;
+    m->rcvid = block_in(c, limit_receive(m->dpp));
     if (m->rcvid == -1) return NULL;
     m->size = m->rcvid ? (size_t)m->info.msglen : sizeof(struct _pulse);
     c->has_event = true;
@@ -303,13 +319,11 @@ void dispatch_unblock(dispatch_context_t *ctp) {
 
 /* ---- handling */
 
-/* Copies the function for a code, or the default function if takes_default. Returns whether there is one. */
+/* Copies the function for a pulse or a message of this code. Returns whether there is one. */
 static bool find_function(dispatch_t *dpp, enum attached kind, int code, struct attached_function *found) {
     pthread_mutex_lock(&dpp->lock);
     int place = place_of_code(dpp, kind, code);
-    for (size_t at = 0; place == -1 && kind == MESSAGES && at < dpp->count; at++) {
-        if (dpp->functions[at].flags & MSG_FLAG_DEFAULT_FUNC) place = (int)at;
-    }
+    if (place == -1 && kind == MESSAGES) place = place_of_code(dpp, OTHERS, code);
     if (place != -1) *found = dpp->functions[place];
     pthread_mutex_unlock(&dpp->lock);
     return place != -1;

@@ -3,6 +3,7 @@
  * The front's own thread watches a file until something holds for it, and then sends a pulse to the handle's
  * channel. The file is watched again after its function has returned. */
 enum { SELECT_EVENTS = SELECT_FLAG_READ | SELECT_FLAG_WRITE | SELECT_FLAG_EXCEPT };
+enum { FILE_TURNS = INT32_MAX / FILES };
 enum { SELECT_FLAGS = SELECT_EVENTS | SELECT_FLAG_REARM | SELECT_FLAG_SRVEXCEPT };
 
 typedef int (*select_function)(select_context_t *ctp, int fd, unsigned flags, void *handle);
@@ -11,7 +12,7 @@ struct file {
     dispatch_t *dpp; /* null: the place is free */
     int fd;
     unsigned flags, ready; /* ready: what holds for it since its function was called */
-    int turn;              /* counts what was attached in this place */
+    int turn;              /* counts what was attached in this place, up to FILE_TURNS */
     select_function function;
     void *handle;
 };
@@ -61,7 +62,7 @@ static int enter_file(const struct file *new) {
     if (at == -1 || watched == -1) return EAGAIN;
     struct file old = files[at];
     files[at] = *new;
-    files[at].turn = old.turn + 1;
+    files[at].turn = (old.turn + 1) % FILE_TURNS;
     int error = watch_file(at, operation);
     if (error == ENOENT) error = watch_file(at, EPOLL_CTL_ADD); /* the file was closed, and opened again */
     if (error) files[at] = old;
@@ -112,15 +113,15 @@ static unsigned flags_that_hold(uint32_t events, unsigned flags) {
     return hold_now & flags;
 }
 
-/* Sends the pulse about a file. If the channel has no room for it, the file is watched again. The front's own
- * thread calls this. */
+/* Sends the pulse about a file. If the channel has no room for it, the file is watched again after a moment. The
+ * front's own thread calls this. */
 static void tell_file(int at, uint32_t events) {
     hold();
     dispatch_t *dpp = files[at].dpp;
     int coid = dpp ? dpp->coid : -1, named = files[at].turn * FILES + at;
     if (dpp) files[at].ready |= flags_that_hold(events, files[at].flags);
     release();
-    if (!dpp || !send_pulse(coid, USUAL, FILE_READY, (union sigval){.sival_int = named})) return;
+    if (!dpp || !send_pulse(coid, USUAL, FILE_READY, (union sigval){.sival_int = named}) || errno != EAGAIN) return;
     usleep(1000);
     hold();
     if (files[at].dpp == dpp) watch_file(at, EPOLL_CTL_MOD);

@@ -31,45 +31,43 @@ static int enter_name(const char *name, int chid) {
     return error;
 }
 
-/* Returns the channel for a name: the handle's, which then has its name, or a new one. Returns -1 and sets errno
- * on an error. */
+/* Returns the channel of a handle, which then has its name. Returns -1 and sets errno on an error. */
 static int channel_for_name(dispatch_t *dpp) {
-    unsigned flags = _NTO_CHF_UNBLOCK | _NTO_CHF_DISCONNECT | _NTO_CHF_COID_DISCONNECT;
-    if (!dpp) return ChannelCreate(flags);
     pthread_mutex_lock(&dpp->lock);
-    int chid = dpp->has_name ? fail(EBUSY) : channel_of(dpp, flags);
-    if (chid != -1) dpp->has_name = true;
+    int chid = dpp->has_name ? fail(EBUSY)
+                             : channel_of(dpp, _NTO_CHF_UNBLOCK | _NTO_CHF_DISCONNECT | _NTO_CHF_COID_DISCONNECT);
+    dpp->has_name |= chid != -1;
     pthread_mutex_unlock(&dpp->lock);
     return chid;
 }
 
-/* Gives up the channel for a name: destroys it, or leaves the handle without a name. */
-static void leave_channel(dispatch_t *dpp, int chid) {
-    if (!dpp) {
-        ChannelDestroy(chid);
-        return;
-    }
+static void take_name_away(dispatch_t *dpp) {
     pthread_mutex_lock(&dpp->lock);
     dpp->has_name = false;
     pthread_mutex_unlock(&dpp->lock);
 }
 
+/* Gives a handle a name. Returns 0 or an errno. */
+static int attach_name(dispatch_t *dpp, const char *path, name_attach_t *attach) {
+    int chid = channel_for_name(dpp);
+    if (chid == -1) return errno == EAGAIN ? EBUSY : errno;
+    int error = enter_name(path, chid);
+    if (error) take_name_away(dpp);
+    *attach = (name_attach_t){.dpp = dpp, .chid = chid};
+    return error;
+}
+
 name_attach_t *name_attach(dispatch_t *dpp, const char *path, unsigned flags) {
-    name_attach_t *attach = calloc(1, sizeof *attach);
-    int chid = -1, error = attach ? wrong_name(path) : ENOMEM;
+    int error = wrong_name(path);
     (void)flags;
-    if (!error) chid = channel_for_name(dpp);
-    if (chid == -1 && !error) error = errno == EAGAIN ? EBUSY : errno;
-    if (!error) error = enter_name(path, chid);
-    if (!error) {
-        attach->chid = chid;
-        attach->dpp = dpp;
-        return attach;
-    }
-    if (chid != -1) leave_channel(dpp, chid);
+    if (error) return null_with(error);
+    name_attach_t *attach = malloc(sizeof *attach);
+    dispatch_t *own = dpp ? NULL : dispatch_create();
+    error = attach && (dpp || own) ? attach_name(dpp ? dpp : own, path, attach) : ENOMEM;
+    if (!error) return attach;
+    if (own) dispatch_destroy(own);
     free(attach);
-    errno = error;
-    return NULL;
+    return null_with(error);
 }
 
 /* Removes the first name of a channel from the program's table. Returns whether there was one. */
@@ -86,8 +84,8 @@ int name_detach(name_attach_t *attach, unsigned flags) {
     if (!attach) return fail(EINVAL);
     bool found = neutrino_remote() ? !neutrino_remote_unname(attach->chid) : remove_name(attach->chid);
     if (!found) return fail(EINVAL);
-    leave_channel(attach->dpp, attach->chid);
-    if (attach->dpp && !(flags & NAME_FLAG_DETACH_SAVEDPP)) dispatch_destroy(attach->dpp);
+    take_name_away(attach->dpp);
+    if (!(flags & NAME_FLAG_DETACH_SAVEDPP)) dispatch_destroy(attach->dpp);
     free(attach);
     return 0;
 }

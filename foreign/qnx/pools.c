@@ -12,8 +12,10 @@ struct worker {
     thread_pool_t *pool;
     pthread_t thread;
     void *context;
-    bool is_self; /* the thread that started the pool */
-    bool is_blocked;
+    bool is_self;    /* the thread that started the pool */
+    bool is_ready;   /* it is blocked, or on its way to block */
+    bool is_blocked; /* it is ready, and its context can be unblocked */
+    bool leaves;     /* it ends, because the pool has too many workers */
     struct worker *next;
 };
 
@@ -22,8 +24,7 @@ struct _thread_pool {
     pthread_cond_t changed; /* a worker has begun or ended */
     thread_pool_attr_t attr;
     unsigned flags;
-    int created; /* the workers that there are */
-    int ready;   /* the workers that are blocked, or on their way to block */
+    int created, ready, leaving; /* the numbers of all workers, and of those that are ready or leave */
     bool has_started, ends;
     struct worker *workers;
 };
@@ -49,6 +50,13 @@ thread_pool_t *thread_pool_create(thread_pool_attr_t *attr, unsigned flags) {
 
 static void *work(void *own);
 
+/* Notes whether a worker is ready, or no longer. The caller has the lock. */
+static void set_ready(struct worker *w, bool is_ready) {
+    w->pool->ready += is_ready - w->is_ready;
+    w->is_ready = is_ready;
+    w->is_blocked = false;
+}
+
 /* Adds a worker without a thread. Returns null if there is no memory. The caller has the lock. */
 static struct worker *add_worker(thread_pool_t *pool) {
     struct worker *w = calloc(1, sizeof *w);
@@ -57,7 +65,7 @@ static struct worker *add_worker(thread_pool_t *pool) {
     w->next = pool->workers;
     pool->workers = w;
     pool->created++;
-    pool->ready++;
+    set_ready(w, true);
     return w;
 }
 
@@ -67,6 +75,8 @@ static void remove_worker(struct worker *w) {
     struct worker **at = &pool->workers;
     while (*at != w) at = &(*at)->next;
     *at = w->next;
+    set_ready(w, false);
+    pool->leaving -= w->leaves;
     pool->created--;
     pthread_cond_broadcast(&pool->changed);
     free(w);
@@ -79,7 +89,6 @@ static int create_worker(thread_pool_t *pool) {
     if (!w) return ENOMEM;
     int error = neutrino_pthread_create(&w->thread, pool->attr.attr, work, w);
     if (error) {
-        pool->ready--;
         remove_worker(w);
         return error;
     }
@@ -102,35 +111,38 @@ static void fill_pool(thread_pool_t *pool) {
     }
 }
 
-/* A worker goes to block. Returns false if it has to end: the pool ends, or it has too many workers. */
-static bool begin_wait(struct worker *w, bool is_first) {
+/* A worker goes to block. Returns false if it has to end: the pool ends, or has too many workers. */
+static bool begin_wait(struct worker *w) {
     thread_pool_t *pool = w->pool;
     pthread_mutex_lock(&pool->lock);
-    bool is_surplus = pool->ready - is_first >= pool->attr.hi_water || pool->created > pool->attr.maximum;
-    bool goes_on = !pool->ends && (w->is_self || !is_surplus);
-    if (!is_first && goes_on) pool->ready++;
-    if (is_first && !goes_on) pool->ready--;
+    int others = pool->ready - w->is_ready, all = pool->created - pool->leaving;
+    bool is_surplus = !w->is_self && (others >= pool->attr.hi_water || all > pool->attr.maximum);
+    bool goes_on = !pool->ends && !is_surplus;
+    set_ready(w, goes_on);
     w->is_blocked = goes_on;
+    w->leaves = is_surplus;
+    pool->leaving += is_surplus;
     if (goes_on) pthread_cond_broadcast(&pool->changed);
     pthread_mutex_unlock(&pool->lock);
     return goes_on;
 }
 
-/* A worker has something to handle, or was unblocked. */
+/* A worker has something to handle in a context, or was unblocked. */
 static void end_wait(struct worker *w, void *context) {
     thread_pool_t *pool = w->pool;
     pthread_mutex_lock(&pool->lock);
-    w->is_blocked = false;
-    pool->ready--;
-    if (context) w->context = context;
-    if (context) fill_pool(pool);
+    set_ready(w, false);
+    if (context) {
+        w->context = context;
+        fill_pool(pool);
+    }
     pthread_mutex_unlock(&pool->lock);
 }
 
 /* Blocks and handles in turn, until the worker has to end. */
 static void work_in_turn(struct worker *w) {
     const thread_pool_attr_t *attr = &w->pool->attr; /* the functions never change */
-    for (bool is_first = true; begin_wait(w, is_first); is_first = false) {
+    while (begin_wait(w)) {
         errno = 0;
         void *context = attr->block_func(w->context);
         int error = errno;
@@ -146,8 +158,7 @@ static void end_work(void *own) {
     thread_pool_t *pool = w->pool;
     void (*context_free)(void *) = pool->attr.context_free;
     pthread_mutex_lock(&pool->lock);
-    if (w->is_blocked) pool->ready--;
-    w->is_blocked = false;
+    set_ready(w, false);
     pthread_mutex_unlock(&pool->lock);
     if (context_free && w->context) context_free(w->context);
     pthread_mutex_lock(&pool->lock);
@@ -160,13 +171,7 @@ static void *work(void *own) {
     thread_pool_t *pool = w->pool;
     pthread_cleanup_push(end_work, w);
     w->context = pool->attr.context_alloc(pool->attr.handle);
-    if (w->context) {
-        work_in_turn(w);
-    } else {
-        pthread_mutex_lock(&pool->lock);
-        pool->ready--;
-        pthread_mutex_unlock(&pool->lock);
-    }
+    if (w->context) work_in_turn(w);
     pthread_cleanup_pop(1);
     return NULL;
 }
@@ -255,7 +260,7 @@ static bool set_limits(thread_pool_t *pool, const thread_pool_attr_t *new) {
 
 /* Unblocks the workers that are too many. The caller has the lock. */
 static void end_surplus(thread_pool_t *pool) {
-    int waits = pool->ready - pool->attr.hi_water, all = pool->created - pool->attr.maximum;
+    int waits = pool->ready - pool->attr.hi_water, all = pool->created - pool->leaving - pool->attr.maximum;
     if (pool->attr.unblock_func) unblock_workers(pool, waits > all ? waits : all);
 }
 

@@ -24,7 +24,7 @@ extern "C" {
 #define NEUTRINO_DCMD(class, number, size, direction) \
     ((int)((unsigned)(direction) | ((unsigned)(size)&0x3fffu) << 16 | ((unsigned)(class) & 0xffu) << 8 | \
            ((unsigned)(number)&0xffu)))
-#define __DIO(class, number) NEUTRINO_DCMD(class, number, 0, _POSIX_DEVDIR_NONE)
+#define __DION(class, number) NEUTRINO_DCMD(class, number, 0, _POSIX_DEVDIR_NONE)
 #define __DIOF(class, number, type) NEUTRINO_DCMD(class, number, sizeof(type), _POSIX_DEVDIR_FROM)
 #define __DIOT(class, number, type) NEUTRINO_DCMD(class, number, sizeof(type), _POSIX_DEVDIR_TO)
 #define __DIOTF(class, number, type) NEUTRINO_DCMD(class, number, sizeof(type), _POSIX_DEVDIR_TOFROM)

@@ -57,7 +57,7 @@ static long status_of(dispatch_context_t *ctp, int type, size_t length) {
 
 void dispatched(void) {
     dispatch_t *dpp = dispatch_create();
-    message_attr_t attr = {.nparts_max = 3, .msg_max_size = 3000}, rest = {.flags = MSG_FLAG_DEFAULT_FUNC};
+    message_attr_t attr = {.nparts_max = 3, .msg_max_size = 3000};
     check(dpp && message_attach(dpp, &attr, FIRST, LAST, note_message, &attr) == 0);
     coid_of_sender = message_connect(dpp, MSG_FLAG_SIDE_CHANNEL);
     check(coid_of_sender & _NTO_SIDE_CHANNEL);
@@ -69,14 +69,27 @@ void dispatched(void) {
     check(status_of(ctp, LAST, 3001) == LAST && got.size == 3000 && !got.value);
     check(status_of(ctp, FIRST - 1, 2) == -ENOSYS && status_of(ctp, LAST + 1, 2) == -ENOSYS);
     check(status_of(ctp, _IO_CONNECT, 2) == -ENOSYS && status_of(ctp, FIRST, 1) == -ENOSYS);
-    check(message_attach(dpp, &rest, 0xffff, 0xffff, note_message, NULL) == 0);
-    check(status_of(ctp, FIRST - 1, 2) == FIRST - 1 && !got.handle && got.flags == MSG_FLAG_DEFAULT_FUNC);
-    check(status_of(ctp, FIRST, 2) == FIRST && got.handle == &attr && status_of(ctp, 0xffff, 2) == 0xffff);
     attr.msg_max_size = 3500;
-    check(message_detach(dpp, 0xffff, 0xffff, 0) == 0);
     check(message_attach(dpp, &attr, 1, 1, note_message, NULL) == 0); /* the context grows */
     check(status_of(ctp, LAST, 3500) == LAST && got.size == 3500 && got.value);
     check(message_detach(dpp, FIRST, LAST, 0) == 0 && status_of(ctp, FIRST, 2) == -ENOSYS);
+    dispatch_context_free(ctp);
+    check(ConnectDetach(coid_of_sender) == 0 && dispatch_destroy(dpp) == 0);
+}
+
+/* The function for the messages that no range has. Its own range isn't used. */
+void dispatched_others(void) {
+    dispatch_t *dpp = dispatch_create();
+    message_attr_t others = {.flags = MSG_FLAG_DEFAULT_FUNC};
+    check(message_attach(dpp, &others, -5, -7, note_message, &others) == 0);
+    check(message_attach(dpp, NULL, FIRST, LAST, note_message, dpp) == 0);
+    fails(message_attach(dpp, &others, 1, 2, note_message, NULL), EINVAL);
+    coid_of_sender = message_connect(dpp, MSG_FLAG_SIDE_CHANNEL);
+    dispatch_context_t *ctp = dispatch_context_alloc(dpp);
+    check(status_of(ctp, FIRST - 1, 2) == FIRST - 1 && got.handle == &others && got.flags == MSG_FLAG_DEFAULT_FUNC);
+    check(status_of(ctp, FIRST, 2) == FIRST && got.handle == dpp && got.flags == 0);
+    check(status_of(ctp, 0xffff, 2) == 0xffff && got.handle == &others);
+    check(message_detach(dpp, -5, -7, 0) == 0 && status_of(ctp, 0xffff, 2) == -ENOSYS);
     dispatch_context_free(ctp);
     check(ConnectDetach(coid_of_sender) == 0 && dispatch_destroy(dpp) == 0);
 }
@@ -85,8 +98,8 @@ void dispatched(void) {
 void dispatched_pulses(void) {
     int chid = ChannelCreate(_NTO_CHF_DISCONNECT), word;
     dispatch_t *dpp = dispatch_create_channel(chid, DISPATCH_FLAG_NOLOCK);
+    check(dpp && pulse_attach(dpp, 0, 1, note_pulse, &word) == 1);
     dispatch_context_t *ctp = dispatch_context_alloc(dpp);
-    check(dpp && ctp && pulse_attach(dpp, 0, 1, note_pulse, &word) == 1);
     check(pulse_attach(dpp, MSG_FLAG_ALLOC_PULSE, -77, note_pulse, NULL) == 0);
     check(pulse_attach(dpp, MSG_FLAG_ALLOC_PULSE, 0, note_pulse, NULL) == 2);
     check(pulse_attach(dpp, 0, _PULSE_CODE_DISCONNECT, note_pulse, dpp) == _PULSE_CODE_DISCONNECT);
@@ -112,9 +125,9 @@ static void *open_a_name(void *name) { return (void *)(intptr_t)name_open(name, 
 /* A handle with a name: the dispatch replies to name_open. */
 void dispatched_names(void) {
     dispatch_t *dpp = dispatch_create(), *second = dispatch_create();
-    dispatch_context_t *ctp = dispatch_context_alloc(dpp);
     name_attach_t *attach = name_attach(dpp, "dispatched", 0);
-    check(attach && attach->dpp == dpp && attach->chid > 0);
+    dispatch_context_t *ctp = dispatch_context_alloc(dpp);
+    check(ctp && attach && attach->dpp == dpp && attach->chid > 0);
     check(!name_attach(dpp, "again", 0) && errno == EBUSY);
     check(!name_attach(second, "dispatched", 0) && errno == EEXIST);
     check(!name_attach(second, "/", 0) && errno == EINVAL);
@@ -144,16 +157,18 @@ static void *block_for_error(void *ctp) { return (void *)(intptr_t)(dispatch_blo
 
 void dispatch_ends(void) {
     struct timespec brief = {0, 1000000}, wrong = {0, -1};
+    uint64_t left = 1;
     dispatch_t *dpp = dispatch_create();
-    dispatch_context_t *ctp = dispatch_context_alloc(dpp), *other = dispatch_context_alloc(dpp);
-    check(!dispatch_block(ctp) && errno == EINVAL); /* nothing is attached */
     check(pulse_attach(dpp, 0, 1, note_pulse, NULL) == 1 && dispatch_timeout(dpp, &brief) == 0);
+    dispatch_context_t *ctp = dispatch_context_alloc(dpp), *other = dispatch_context_alloc(dpp);
     check(!dispatch_block(ctp) && errno == ETIMEDOUT && !dispatch_block(ctp) && errno == ETIMEDOUT);
     fails(dispatch_timeout(dpp, &wrong), EINVAL);
     fails(dispatch_timeout(NULL, &brief), EINVAL);
+    dispatch_unblock(ctp); /* it ends the next block, which sets no timeout for another call */
+    check(!dispatch_block(ctp) && errno == EINTR && TimerTimeout(CLOCK_MONOTONIC, 0, NULL, NULL, &left) == 0 && !left);
     check(dispatch_timeout(dpp, NULL) == 0);
-    dispatch_unblock(ctp); /* it ends the next block */
-    check(!dispatch_block(ctp) && errno == EINTR);
+    set_timeout(_NTO_TIMEOUT_RECEIVE, 1000000);
+    check(!dispatch_block(ctp) && errno == ETIMEDOUT);
     for (int turn = 0; turn < rounds / 10; turn++) {
         pthread_t first = start(block_in_context, ctp), second = start(block_in_context, other);
         if (turn % 2) usleep(200);
@@ -181,9 +196,9 @@ void dispatch_ends(void) {
 /* A thread that is cancelled in dispatch_block leaves a context that can be used, and freed. */
 void dispatch_cancelled(void) {
     dispatch_t *dpp = dispatch_create();
-    dispatch_context_t *ctp = dispatch_context_alloc(dpp);
     void *result;
     check(pulse_attach(dpp, 0, 1, note_pulse, NULL) == 1);
+    dispatch_context_t *ctp = dispatch_context_alloc(dpp);
     int coid = message_connect(dpp, 0);
     pthread_t blocked = start(block_for_error, ctp);
     usleep(2000);
@@ -232,6 +247,7 @@ void dispatch_errors(void) {
     check(!dispatch_context_alloc(NULL) && errno == EINVAL && !dispatch_block(NULL) && errno == EINVAL);
     fails(dispatch_handler(NULL), EINVAL);
     dispatch_t *dpp = dispatch_create();
+    check(!dispatch_context_alloc(dpp) && errno == EINVAL); /* nothing is attached */
     fails(message_connect(dpp, 0), EINVAL);
     fails(message_connect(NULL, 0), EINVAL);
     for (int at = 0; at < 64; at++) check((all[at] = ChannelCreate(0)) > 0);

@@ -101,6 +101,7 @@ static const struct {
     TEST(devices),
     TEST(small_headers),
     TEST(dispatched),
+    TEST(dispatched_others),
     TEST(dispatched_pulses),
     TEST(dispatched_names),
     TEST(dispatch_ends),
@@ -114,7 +115,6 @@ static const struct {
     TEST(pool_selves),
     TEST(pool_ends),
     TEST(pool_errors),
-
 };
 
 pthread_t start(void *(*work)(void *), void *argument) {

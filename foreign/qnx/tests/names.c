@@ -49,7 +49,7 @@ static void many_names(void) {
 void names(void) {
     struct _pulse pulse;
     name_attach_t *attach = name_attach(NULL, "disk/1", NAME_FLAG_ATTACH_GLOBAL), gone;
-    check(attach && attach->chid > 0 && !attach->dpp);
+    check(attach && attach->chid > 0 && attach->dpp);
     chid_of_names = attach->chid;
     wrong_names("disk/1");
     many_names();

@@ -67,7 +67,7 @@ void pools_of_pulses(void) {
 
 enum { GIVE = 7 };
 #define DCMD_GIVE __DIOTF(_DCMD_MISC, GIVE, uint32_t)
-#define DCMD_NONE __DIO(_DCMD_MISC, 8)
+#define DCMD_NONE __DION(_DCMD_MISC, 8)
 
 static int chid_of_device;
 

@@ -74,7 +74,8 @@ void logs(void), logs_in_buffers(void);
 void spawns(void), spawn_files(void), spawn_inherits(void), spawn_lists(void), spawn_overlays(void), daemons(void);
 void daemon_with_channels(void);
 void client_info(void), pauses(void), pools_of_pulses(void), devices(void), small_headers(void);
-void dispatched(void), dispatched_pulses(void), dispatched_names(void), dispatch_ends(void), dispatch_cancelled(void);
+void dispatched(void), dispatched_others(void), dispatched_pulses(void), dispatched_names(void), dispatch_ends(void),
+    dispatch_cancelled(void);
 void dispatch_errors(void), selected(void), deselected(void), select_errors(void);
 void pools(void), pool_limits(void), pool_selves(void), pool_ends(void), pool_errors(void);
 void headers(void), names(void), shown(void), circles(void), quits(void);

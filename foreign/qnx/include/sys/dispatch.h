@@ -17,20 +17,21 @@ extern "C" {
 typedef struct _dispatch dispatch_t;
 
 typedef struct _name_attach {
-    dispatch_t *dpp; /* as in name_attach */
+    dispatch_t *dpp; /* the handle that has the name */
     int chid;
     int mntid;
     int zero[2];
 } name_attach_t;
 
-/* Creates a channel that name_open finds by this name, with the flags _NTO_CHF_UNBLOCK, _NTO_CHF_DISCONNECT
- * and _NTO_CHF_COID_DISCONNECT. A global name is the same as a local name. Returns null on an error: EINVAL
- * (no name, or it begins with / or has ..), EEXIST, ENAMETOOLONG (over 255 bytes), EBUSY (64 channels are
- * open, or 64 names attached), ENOTSUP (dpp is not null), ENOMEM. */
+/* Gives the channel of a handle a name, by which name_open finds it. With a null dpp it makes a handle. A handle
+ * without a channel gets one, with the flags _NTO_CHF_UNBLOCK, _NTO_CHF_DISCONNECT and _NTO_CHF_COID_DISCONNECT. A
+ * global name is the same as a local name. Returns null on an error: EINVAL (no name, or it begins with / or
+ * has ..), EEXIST, ENAMETOOLONG (over 255 bytes), EBUSY (64 channels are open, 64 names are attached, or the handle
+ * has a name), ENOMEM. */
 name_attach_t *name_attach(dispatch_t *dpp, const char *path, unsigned flags);
 
-/* Removes the name, destroys the channel and frees attach. A handle is destroyed with its channel, unless flags
- * has NAME_FLAG_DETACH_SAVEDPP. EINVAL: attach is null, or its name is gone. */
+/* Removes the name, frees attach, and destroys the handle with its channel, unless flags has
+ * NAME_FLAG_DETACH_SAVEDPP. EINVAL: attach is null, or its name is gone. */
 int name_detach(name_attach_t *attach, unsigned flags);
 
 /* Attaches to the channel with this name, and sends it an _IO_CONNECT message. The server has to reply with
@@ -57,6 +58,7 @@ typedef struct _message_context {
     resmgr_iomsgs_t *msg;
     dispatch_t *dpp;
     int id;              /* 0 */
+    unsigned tid;        /* of the thread that received */
     size_t msg_max_size; /* the bytes that msg has room for */
     long status;         /* these two are the program's */
     size_t offset;
@@ -78,7 +80,7 @@ typedef struct _message_attr {
 } message_attr_t;
 
 #define MSG_FLAG_CROSS_ENDIAN 1u /* changes nothing: there is one node */
-#define MSG_FLAG_DEFAULT_FUNC 2u /* the function also gets the messages that no range has */
+#define MSG_FLAG_DEFAULT_FUNC 2u /* the function gets the messages that no range has; low and high aren't used */
 #define MSG_FLAG_ALLOC_PULSE 4u  /* pulse_attach chooses the code */
 #define MSG_FLAG_SIDE_CHANNEL 8u /* the coid of message_connect is a side channel's */
 
@@ -95,12 +97,13 @@ dispatch_t *dispatch_create_channel(int chid, unsigned flags);
  * use the handle afterwards. EINVAL: dpp is null. */
 int dispatch_destroy(dispatch_t *dpp);
 
-/* Makes a context, in which a thread receives for the handle. Null: EINVAL (dpp is null), ENOMEM. */
+/* Makes a context, in which a thread receives for the handle. Null: EINVAL (dpp is null, or nothing was attached
+ * to it), ENOMEM. */
 dispatch_context_t *dispatch_context_alloc(dispatch_t *dpp);
 void dispatch_context_free(dispatch_context_t *ctp);
 
-/* Waits for a message, a pulse or a file. Returns the context for dispatch_handler, or null: EINVAL (ctp is null,
- * or nothing is attached), EINTR (a signal handler, or dispatch_unblock), ETIMEDOUT (dispatch_timeout), ENOMEM,
+/* Waits for a message, a pulse or a file. Returns the context for dispatch_handler, or null: EINVAL (ctp is null),
+ * EINTR (a signal handler, or dispatch_unblock), ETIMEDOUT (dispatch_timeout), ENOMEM,
  * and the errors of MsgReceive. A cancellation point. */
 dispatch_context_t *dispatch_block(dispatch_context_t *ctp);
 
@@ -118,12 +121,13 @@ void dispatch_unblock(dispatch_context_t *ctp);
 int dispatch_timeout(dispatch_t *dpp, struct timespec *reltime);
 
 /* Attaches a function to the messages whose first 16 bits are a number from low to high. attr may be null.
- * EINVAL: dpp or the function is null, low is below 0, high is below low or above 65,535, another flag, or a
- * number of the range is attached; ENOMEM, and the errors of ChannelCreate. */
+ * EINVAL: dpp or the function is null, low is below 0, high is below low or above 65,535, another flag, a number of
+ * the range is attached, or a second MSG_FLAG_DEFAULT_FUNC; ENOMEM, and the errors of ChannelCreate. */
 int message_attach(dispatch_t *dpp, message_attr_t *attr, int low, int high,
                    int (*func)(message_context_t *ctp, int code, unsigned flags, void *handle), void *handle);
 
-/* Detaches a range as it was attached. EINVAL: there is no such range. */
+/* Detaches a range, or a default function, with low and high as they were attached. flags isn't used. EINVAL: there
+ * is no such range. */
 int message_detach(dispatch_t *dpp, int low, int high, unsigned flags);
 
 /* Attaches to the handle's channel. Returns the coid, or -1: EINVAL (dpp is null, it has no channel yet, or
