@@ -46,6 +46,8 @@
 #include <stddef.h>
 #include <stdint.h>
 #include <sys/missing.h>
+#include <sys/neutrino_interrupts.h>
+#include <sys/neutrino_peers.h>
 #include <sys/siginfo.h>
 #include <sys/types.h>
 #include <sys/uio.h>
@@ -151,63 +153,6 @@ int ConnectDetach_r(int coid);
  * (another process), EBADF (no such connection). */
 int ConnectFlags(pid_t pid, int coid, unsigned mask, unsigned bits);
 int ConnectFlags_r(pid_t pid, int coid, unsigned mask, unsigned bits);
-
-struct _server_info {
-    uint32_t nd;
-    uint32_t srcnd;
-    pid_t pid;
-    int32_t tid;
-    int32_t chid;
-    int32_t scoid;
-    int32_t coid;
-    int16_t priority;
-    int16_t flags; /* of the connection */
-    ssize_t msglen;
-    ssize_t srcmsglen;
-    ssize_t dstmsglen;
-    uint32_t type_id;
-    uint32_t reserved;
-};
-
-/* Fills in nd, pid, chid, scoid, coid and flags of a connection. If there is no such connection, it takes the
- * connection with the next greater coid. Returns the coid, or -1: ESRCH (another process), EINVAL (no
- * connection has this coid or a greater one). */
-int ConnectServerInfo(pid_t pid, int coid, struct _server_info *info);
-int ConnectServerInfo_r(pid_t pid, int coid, struct _server_info *info);
-
-#define __NGROUPS_MAX 8
-
-struct _cred_info {
-    uid_t ruid, euid, suid;
-    gid_t rgid, egid, sgid;
-    uint32_t ngroups;
-    gid_t grouplist[__NGROUPS_MAX];
-};
-
-struct _client_info {
-    uint32_t nd;
-    pid_t pid;
-    pid_t sid;
-    uint32_t flags;
-    struct _cred_info cred;
-};
-
-/* Fills in the process of an scoid, with at most ngroups groups. EINVAL: no such scoid. */
-int ConnectClientInfo(int scoid, struct _client_info *info, int ngroups);
-int ConnectClientInfo_r(int scoid, struct _client_info *info, int ngroups);
-
-#define _NTO_CLIENTINFO_GETGROUPS 1
-#define _NTO_CLIENTINFO_GETTYPEID 2
-
-/* ConnectClientInfo into memory that it allocates: *info_pp has to be null, or the result of an earlier call.
- * With _NTO_CLIENTINFO_GETGROUPS it fills in all groups of the client, which may be more than
- * __NGROUPS_MAX, or the first 8 groups of another program. EFAULT: info_pp is null; EINVAL: another flag, or
- * no such scoid; ENOMEM. */
-int ConnectClientInfoExt(int scoid, struct _client_info **info_pp, int flags);
-int ConnectClientInfoExt_r(int scoid, struct _client_info **info_pp, int flags);
-
-/* Frees *info_pp, and makes it null. EFAULT: info_pp is null. */
-int ClientInfoExtFree(struct _client_info **info_pp);
 
 /* ---- messages */
 
@@ -475,45 +420,6 @@ static inline uint64_t ClockCycles(void) {
     clock_gettime(CLOCK_MONOTONIC, &now);
     return (uint64_t)now.tv_sec * 1000000000u + (uint64_t)now.tv_nsec;
 }
-
-/* ---- interrupts
- *
- * An interrupt line, 0 to 255, is an eventfd of the host. A program or a test raises the line by a write to
- * the eventfd, which neutrino_interrupt_line returns. */
-
-#define _NTO_INTR_FLAGS_END 1u /* these four change nothing, since the masks of each event are counted */
-#define _NTO_INTR_FLAGS_NO_UNMASK 2u
-#define _NTO_INTR_FLAGS_PROCESS 4u
-#define _NTO_INTR_FLAGS_TRK_MSK 8u
-
-/* Attaches an event to a line. When the line is raised, it is masked once for each of its events, and the
- * events are delivered: SIGEV_PULSE, SIGEV_SIGNAL, SIGEV_SIGNAL_CODE and SIGEV_NONE as by MsgDeliverEvent,
- * SIGEV_SIGNAL_THREAD to the thread that attached, and SIGEV_INTR to its InterruptWait. The receiver ends the
- * mask by InterruptUnmask. A line that is raised while it is masked delivers once more when it is unmasked.
- * No privilege is needed. Returns an id, or -1: EINVAL (no such line, flag or event), EFAULT (no event),
- * EAGAIN (64 events are attached, or the host has no file left). */
-int InterruptAttachEvent(int intr, const struct sigevent *event, unsigned flags);
-int InterruptAttachEvent_r(int intr, const struct sigevent *event, unsigned flags);
-
-/* Detaches an event, and ends its masks. EINVAL: no such id. */
-int InterruptDetach(int id);
-int InterruptDetach_r(int id);
-
-/* Mask a line, and end a mask, on behalf of an event or of none (-1). Return the number of masks that the
- * line has now, or -1 and EINVAL: no such line, or the id is another line's. An unmasked line stays
- * unmasked. */
-int InterruptMask(int intr, int id);
-int InterruptUnmask(int intr, int id);
-
-/* Waits until an event of SIGEV_INTR that this thread has attached is delivered, or returns at once if one was
- * delivered since its last InterruptWait. EINVAL: flags isn't 0; ENOTSUP: reserved isn't null; EINTR;
- * ETIMEDOUT, by TimerTimeout with _NTO_TIMEOUT_INTR. */
-int InterruptWait(int flags, const uint64_t *reserved);
-int InterruptWait_r(int flags, const uint64_t *reserved);
-
-/* Returns the eventfd of a line, which stays open until the program ends. A write of eventfd_write(fd, 1)
- * raises the line. -1: EINVAL (no such line), EMFILE, and other errors of eventfd. QNX has no such function. */
-int neutrino_interrupt_line(int intr);
 
 /* ---- seeing a run; QNX has no such function
  *

@@ -75,6 +75,7 @@ int vslog2f(slog2_buffer_t buffer, uint16_t code, uint8_t severity, const char *
 NEUTRINO_MISSING(slog2_dump_logs_to_file);
 NEUTRINO_MISSING(slog2_find_buffer);
 NEUTRINO_MISSING(slog2_parse_all);
+NEUTRINO_MISSING(slog2fa);
 
 #ifdef __cplusplus
 }
