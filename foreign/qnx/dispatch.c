@@ -46,9 +46,19 @@ static void *null_with(int error) {
     return NULL;
 }
 
+/* LeakSanitizer has this function, and other programs don't. */
+void __lsan_ignore_object(const void *memory) __attribute__((weak));
+
+/* Allocates cleared memory that a program may keep until it ends, as servers under QNX do: this is no leak. */
+static void *allocate(size_t size) {
+    void *memory = calloc(1, size);
+    if (memory && __lsan_ignore_object) __lsan_ignore_object(memory);
+    return memory;
+}
+
 dispatch_t *dispatch_create_channel(int chid, unsigned flags) {
     if (flags & ~DISPATCH_FLAG_NOLOCK || (chid < 1 && chid != -1)) return null_with(EINVAL);
-    dispatch_t *dpp = malloc(sizeof *dpp);
+    dispatch_t *dpp = allocate(sizeof *dpp);
     if (!dpp) return NULL;
     *dpp = (dispatch_t){.lock = PTHREAD_MUTEX_INITIALIZER, .chid = chid, .coid = -1, .room = LEAST_ROOM, .parts = 1};
     return dpp;
@@ -207,7 +217,7 @@ dispatch_context_t *dispatch_context_alloc(dispatch_t *dpp) {
     bool is_used = dpp->is_used;
     pthread_mutex_unlock(&dpp->lock);
     if (!is_used) return null_with(EINVAL);
-    struct context *c = calloc(1, sizeof *c + parts * sizeof(iov_t));
+    struct context *c = allocate(sizeof *c + parts * sizeof(iov_t));
     void *bytes = calloc(1, room);
     if (!c || !bytes) {
         free(c);

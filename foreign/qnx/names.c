@@ -61,7 +61,7 @@ name_attach_t *name_attach(dispatch_t *dpp, const char *path, unsigned flags) {
     int error = wrong_name(path);
     (void)flags;
     if (error) return null_with(error);
-    name_attach_t *attach = malloc(sizeof *attach);
+    name_attach_t *attach = allocate(sizeof *attach);
     dispatch_t *own = dpp ? NULL : dispatch_create();
     error = attach && (dpp || own) ? attach_name(dpp ? dpp : own, path, attach) : ENOMEM;
     if (!error) return attach;

@@ -36,7 +36,7 @@ static bool are_limits(const thread_pool_attr_t *attr) {
 thread_pool_t *thread_pool_create(thread_pool_attr_t *attr, unsigned flags) {
     bool is_whole = attr && attr->block_func && attr->handler_func && attr->context_alloc && are_limits(attr);
     if (!is_whole || flags >= POOL_FLAGS) return null_with(EINVAL);
-    thread_pool_t *pool = calloc(1, sizeof *pool);
+    thread_pool_t *pool = allocate(sizeof *pool);
     if (!pool) return NULL;
     pthread_mutex_init(&pool->lock, NULL);
     pthread_cond_init(&pool->changed, NULL);

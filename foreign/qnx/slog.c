@@ -30,12 +30,16 @@ static int host_priority(int severity) {
 static int write_entry(int severity, const char *head, const char *text) {
     const char *to = getenv("BALSAEUCHRE_SLOG");
     int length = (int)strlen(text);
+    iov_t line[3];
     if (length && text[length - 1] == '\n') length--;
     if (to && !strcmp(to, "syslog")) {
         syslog(host_priority(severity), "%s%.*s", head, length, text);
         return 0;
     }
-    return dprintf(STDERR_FILENO, "%s%.*s\n", head, length, text) < 0 ? -1 : 0;
+    SETIOV(&line[0], head, strlen(head));
+    SETIOV(&line[1], text, length);
+    SETIOV(&line[2], "\n", 1);
+    return writev(STDERR_FILENO, line, 3) == -1 ? -1 : 0;
 }
 
 /* Writes an entry of slogf. Returns its length without the head. */

@@ -43,6 +43,21 @@ static void *client(void *arg)
     return (void *)right;
 }
 
+static void set_attributes(thread_pool_attr_t *attr, dispatch_t *dpp)
+{
+    memset(attr, 0, sizeof *attr);
+    attr->handle = dpp;
+    attr->context_alloc = dispatch_context_alloc;
+    attr->context_free = dispatch_context_free;
+    attr->block_func = dispatch_block;
+    attr->unblock_func = dispatch_unblock;
+    attr->handler_func = dispatch_handler;
+    attr->lo_water = 2;
+    attr->hi_water = 4;
+    attr->increment = 1;
+    attr->maximum = 6;
+}
+
 int main(void)
 {
     thread_pool_attr_t attr;
@@ -60,17 +75,7 @@ int main(void)
         perror("message_attach");
         return EXIT_FAILURE;
     }
-    memset(&attr, 0, sizeof attr);
-    attr.handle = dpp;
-    attr.context_alloc = dispatch_context_alloc;
-    attr.context_free = dispatch_context_free;
-    attr.block_func = dispatch_block;
-    attr.unblock_func = dispatch_unblock;
-    attr.handler_func = dispatch_handler;
-    attr.lo_water = 2;
-    attr.hi_water = 4;
-    attr.increment = 1;
-    attr.maximum = 6;
+    set_attributes(&attr, dpp);
     if ((pool = thread_pool_create(&attr, 0)) == NULL) {
         perror("thread_pool_create");
         return EXIT_FAILURE;

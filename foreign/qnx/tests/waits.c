@@ -135,6 +135,17 @@ static void *change(void *argument) {
     return argument;
 }
 
+/* A thread that sleeps on an address waits for a condition, too. */
+static void sleepon_limits(void) {
+    static int word;
+    check(pthread_sleepon_lock() == 0);
+    set_timeout(_NTO_TIMEOUT_CONDVAR, soon);
+    check(pthread_sleepon_wait(&word) == ETIMEDOUT);
+    set_timeout(_NTO_TIMEOUT_CONDVAR | _NTO_TIMEOUT_NANOSLEEP, far_off);
+    check(pthread_sleepon_timedwait(&word, soon) == ETIMEDOUT && usleep(20000) == 0);
+    check(pthread_sleepon_unlock() == 0);
+}
+
 void condition_limits(void) {
     struct timespec past = {1, 0};
     uint64_t before = now_in_nanoseconds();
@@ -155,4 +166,5 @@ void condition_limits(void) {
     is_changed = 0;
     while (!is_changed) check(pthread_cond_wait(&changed, &held) == 0);
     check(pthread_mutex_unlock(&held) == 0 && result_of(changer) == 0);
+    sleepon_limits();
 }
