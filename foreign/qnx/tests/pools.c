@@ -83,7 +83,7 @@ void pools(void) {
     for (int at = 1; at < 8; at++) clients[at] = start(ask_pool, NULL);
     while (atomic_load(&busy) < 5) usleep(500);
     usleep(20000);
-    check(workers() == 5 && atomic_load(&busy) == 5);
+    check(workers() == 5 && atomic_load(&busy) == 5 && atomic_load(&made) == 5); /* never more */
     fails(thread_pool_start(pool), EINVAL);
     atomic_store(&goes, 1);
     for (int at = 0; at < 8; at++) check(result_of(clients[at]) == WORK);
