@@ -180,7 +180,7 @@ FAULTS = [
     ("a pool's numbers stay", "pool_limits", PLAIN,
      [("pools.c", "    pool->attr.lo_water = new->lo_water;\n", "")]),
     ("a pool's surplus stays", "pool_limits", PLAIN,
-     [("pools.c", "    if (is_set) end_surplus(pool);\n    while", "    while")]),
+     [("pools.c", "    if (is_set) end_surplus(pool);\n    waits", "    waits")]),
     ("a worker destroys its pool", "pool_selves", PLAIN,
      [("pools.c", "is_worker(pool) ? EDEADLK : ", "")]),
     ("the starter isn't in the pool", "pool_selves", PLAIN,

@@ -264,12 +264,13 @@ static void end_surplus(thread_pool_t *pool) {
     if (pool->attr.unblock_func) unblock_workers(pool, waits > all ? waits : all);
 }
 
-/* Gives a pool new limits, and waits until it has lower to upper workers if waits. */
+/* Gives a pool new limits, and waits until it has lower to upper workers if waits and it has started. */
 static int control(thread_pool_t *pool, const thread_pool_attr_t *new, int lower, int upper, bool waits) {
     pthread_mutex_lock(&pool->lock);
     bool is_set = set_limits(pool, new);
     if (is_set) end_surplus(pool);
-    while (is_set && waits && (pool->created < lower || pool->created > upper)) {
+    waits &= is_set && pool->has_started;
+    while (waits && (pool->created < lower || pool->created > upper)) {
         wait_for_change(pool);
         end_surplus(pool);
     }

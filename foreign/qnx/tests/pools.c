@@ -98,6 +98,7 @@ void pool_limits(void) {
     thread_pool_attr_t attr = usual_pool(dpp), wrong = attr;
     thread_pool_t *pool = thread_pool_create(&attr, 0);
     check(thread_pool_limits(pool, -1, -1, -1, 2, 0) == EOK && workers() == 0); /* it hasn't started */
+    check(thread_pool_control(pool, &attr, 1, 5, THREAD_POOL_CONTROL_LOWATER) == EOK);
     check(thread_pool_start(pool) == EOK && thread_pool_limits(pool, 4, 4, 4, -1, 0) == EOK);
     until_workers(4);
     check(thread_pool_limits(pool, 1, 2, -1, -1, THREAD_POOL_CONTROL_NONBLOCK) == EOK);

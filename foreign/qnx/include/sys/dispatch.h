@@ -220,7 +220,7 @@ int thread_pool_destroy(thread_pool_t *pool);
 
 /* Change the numbers of a pool. thread_pool_limits leaves those that are negative, and thread_pool_control takes
  * those that flags name. Both then create threads, or end threads that wait, as the numbers say. Unless flags
- * has THREAD_POOL_CONTROL_NONBLOCK, thread_pool_control waits until the pool has lower to upper threads, and
+ * has THREAD_POOL_CONTROL_NONBLOCK, thread_pool_control waits until a started pool has lower to upper threads, and
  * thread_pool_limits until it has at most maximum. Return EOK, or -1: EINVAL (the pool or attr is null, another
  * flag, numbers as in thread_pool_create, or lower above upper). */
 int thread_pool_limits(thread_pool_t *pool, int lowater, int hiwater, int maximum, int increment, unsigned flags);
