@@ -197,3 +197,9 @@ int ConnectFlags(pid_t pid, int coid, unsigned mask, unsigned bits) {
     release();
     return c ? (int)old : fail(EBADF);
 }
+
+/* Each channel has the places of the kernel, which are enough for a pool that the kernel can have. */
+int ChannelCreatePulsePool(unsigned flags, const struct nto_channel_config *config) {
+    bool fits = config && config->num_pulses && config->num_pulses <= 1024;
+    return fits ? ChannelCreate(flags) : fail(EINVAL);
+}

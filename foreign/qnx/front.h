@@ -34,6 +34,22 @@ enum { SIDE = _NTO_SIDE_CHANNEL, SCOIDS = 255 };
 /* ENTRIES: each thread may just have detached a connection that is still in the table. */
 enum { CHANNELS = 64, CONNECTIONS = 1024, ENTRIES = CONNECTIONS + SEATS };
 enum { TIMERS = 256, NAMES = 64, NAME_LENGTH = 256, THREAD_NAME = 16 };
+enum { LINES = 256, FILES = 256 }; /* interrupt lines; files of select_attach */
+/* What the front's own thread waits for, as numbers of its epoll: the timers from 0 on, an order, the interrupt
+ * lines, and the files. */
+enum { WAIT_ORDER = TIMERS, WAIT_LINE, WAIT_FILE = WAIT_LINE + LINES };
+
+enum { MESSAGE_STATES = _NTO_TIMEOUT_SEND | _NTO_TIMEOUT_RECEIVE | _NTO_TIMEOUT_REPLY };
+enum {
+    HOST_STATES = _NTO_TIMEOUT_CONDVAR | _NTO_TIMEOUT_INTR | _NTO_TIMEOUT_JOIN | _NTO_TIMEOUT_MUTEX |
+                  _NTO_TIMEOUT_NANOSLEEP | _NTO_TIMEOUT_SEM
+};
+
+/* The timeout of the calling thread's next call. The layer has the part of messages. */
+static _Thread_local struct {
+    int states; /* 0: none is set */
+    uint64_t time;
+} next_wait;
 
 static pthread_mutex_t front = PTHREAD_MUTEX_INITIALIZER;
 /* Above 0: the thread has the front's lock, or uses the buffers of its seat. Its own signal handlers read

@@ -222,9 +222,10 @@ static int take_seat(void) {
     return error ? fail(error) : 0;
 }
 
-/* Lets the calling thread make calls. EDEADLK: it is in a handler that interrupted the front, or in a handler
- * that interrupted a call and has forked since. */
+/* Lets the calling thread make calls, which use up its timeout. EDEADLK: it is in a handler that interrupted the front,
+ * or in a handler that interrupted a call and has forked since. */
 static int enter(void) {
+    next_wait.states = 0;
     if (holding || (!seat && neutrino_inside())) return fail(EDEADLK);
     return seat ? 0 : take_seat();
 }

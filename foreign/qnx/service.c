@@ -1,6 +1,6 @@
-/* The front's own thread. It waits for timers, for pulses that signal handlers couldn't send, and for
- * SIGQUIT. Tested, not proved. */
-enum { ORDERS = TIMERS, EVERY = 20 }; /* EVERY: milliseconds between looks for circles */
+/* The front's own thread. It waits for timers, for interrupts, for files of select_attach, for pulses that
+ * signal handlers couldn't send, and for SIGQUIT. Tested, not proved. */
+enum { EVERY = 20 }; /* milliseconds between looks for circles */
 
 /* An order that the front's thread gets through a pipe. */
 struct order {
@@ -35,6 +35,14 @@ static void obey(void) {
     else send_pulse(order.coid, order.priority, order.code, order.value);
 }
 
+/* Does what one event of the epoll asks for. */
+static void act(uint32_t number, uint32_t events) {
+    if (number < WAIT_ORDER) expire(&timers[number]);
+    else if (number == WAIT_ORDER) obey();
+    else if (number < WAIT_FILE) raise_line((int)number - WAIT_LINE);
+    else tell_file((int)number - WAIT_FILE, events);
+}
+
 static void *serve(void *tells_circles) {
     struct epoll_event event;
     if (neutrino_remote() || !neutrino_join(kernel, TICKER)) seat = TICKER;
@@ -43,14 +51,13 @@ static void *serve(void *tells_circles) {
         if (count == -1 && errno != EINTR) return NULL; /* the program has closed all files */
         if (tells_circles) tell_circles();
         if (count != 1) continue;
-        if (event.data.u32 == ORDERS) obey();
-        else expire(&timers[event.data.u32]);
+        act(event.data.u32, event.events);
     }
 }
 
 /* Opens the pipe and the epoll. Returns whether both are open. */
 static bool open_service(void) {
-    struct epoll_event event = {.events = EPOLLIN, .data.u32 = ORDERS};
+    struct epoll_event event = {.events = EPOLLIN, .data.u32 = WAIT_ORDER};
     int epoll = epoll_create1(EPOLL_CLOEXEC);
     if (epoll == -1) return false;
     if (pipe2(orders, O_CLOEXEC | O_NONBLOCK) || epoll_ctl(epoll, EPOLL_CTL_ADD, orders[0], &event)) {
@@ -101,6 +108,8 @@ static void forget_all(void) {
     memset(notes, 0, sizeof notes);
     memset(names, 0, sizeof names);
     forget_record();
+    forget_lines();
+    forget_files();
     pthread_mutex_init(&systems, NULL);
     pthread_mutex_init(&front, NULL);
     pthread_cond_init(&given_back, NULL);

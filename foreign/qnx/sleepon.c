@@ -28,14 +28,13 @@ static int sleep_until(struct sleeper *own, const struct timespec *until) {
 
 int pthread_sleepon_timedwait(const volatile void *addr, uint64_t nsec) {
     struct sleeper own = {addr, NULL}, **last = &sleepers;
-    struct timespec until;
+    struct limit limit = take_limit(_NTO_TIMEOUT_CONDVAR);
     int result;
-    clock_gettime(CLOCK_REALTIME, &until);
-    nsec2timespec(&until, timespec2nsec(&until) + nsec);
+    if (nsec) limit = (struct limit){true, time_after(CLOCK_REALTIME, nsec)};
     while (*last) last = &(*last)->next;
     *last = &own;
     pthread_cleanup_push(stop_sleeping, &own);
-    result = sleep_until(&own, nsec ? &until : NULL);
+    result = sleep_until(&own, limit.is_set ? &limit.until : NULL);
     pthread_cleanup_pop(1);
     return result;
 }

@@ -147,6 +147,7 @@ static int set_priority(int tid, int policy, int priority) {
     struct sched_param param = {.sched_priority = priority};
     enum use use = seat_of(tid).use;
     if (use == FREE) return fail(ESRCH);
+    if (policy == SCHED_ADJTOHEAD || policy == SCHED_ADJTOTAIL) return 0;
     if (!is_priority(priority)) return fail(EINVAL);
     hold();
     seats[tid].priority = priority;
@@ -280,15 +281,22 @@ static int change_name(struct _thread_name *name) {
     return error;
 }
 
-int ThreadCtl(int cmd, void *data) {
-    if (enter()) return -1;
-    if (cmd >= _NTO_TCTL_IO && cmd <= _NTO_TCTL_RUNMASK) return 0;
-    int error = cmd != _NTO_TCTL_NAME ? EINVAL : !data ? EFAULT : change_name(data);
-    return error ? fail(error) : 0;
+static _Thread_local unsigned runmask = ~0u; /* as it was last set */
+
+/* Sets the calling thread's mask, and writes its old mask. */
+static int change_runmask(unsigned *mask) {
+    unsigned old = runmask;
+    runmask = *mask;
+    *mask = old;
+    return 0;
 }
 
-unsigned delay(unsigned milliseconds) {
-    struct timespec left = {0, 0}, time = {(time_t)(milliseconds / 1000), (long)(milliseconds % 1000) * 1000000};
-    if (!nanosleep(&time, &left)) return 0;
-    return (unsigned)(left.tv_sec * 1000 + left.tv_nsec / 1000000);
+int ThreadCtl(int cmd, void *data) {
+    if (enter()) return -1;
+    if (cmd == _NTO_TCTL_RUNMASK) runmask = (unsigned)(uintptr_t)data;
+    if (cmd >= _NTO_TCTL_IO && cmd <= _NTO_TCTL_RUNMASK) return 0;
+    if (cmd >= _NTO_TCTL_THREADS_HOLD && cmd <= _NTO_TCTL_ONE_THREAD_CONT) return fail(ENOTSUP);
+    if (cmd == _NTO_TCTL_RUNMASK_GET_AND_SET) return data ? change_runmask(data) : fail(EFAULT);
+    int error = cmd != _NTO_TCTL_NAME ? EINVAL : !data ? EFAULT : change_name(data);
+    return error ? fail(error) : 0;
 }

@@ -171,36 +171,26 @@ int ClockPeriod(clockid_t id, const struct _clockperiod *new, struct _clockperio
 
 /* ---- timeouts */
 
-/* The nanoseconds after which the next pthread_join times out, plus 1; 0: it has no timeout. */
-static _Thread_local uint64_t join_time;
-
-int neutrino_pthread_join(pthread_t thread, void **value) {
-    uint64_t time = join_time;
-    struct timespec until;
-    join_time = 0;
-    if (!time) return pthread_join(thread, value);
-    clock_gettime(CLOCK_REALTIME, &until);
-    time += timespec2nsec(&until) - 1;
-    nsec2timespec(&until, time);
-    return pthread_timedjoin_np(thread, value, &until);
+/* Returns the nanoseconds until a time of a clock, or fails. */
+static int time_until(clockid_t id, uint64_t *time) {
+    struct timespec now;
+    if (clock_gettime(id, &now)) return -1;
+    *time = *time > timespec2nsec(&now) ? *time - timespec2nsec(&now) : 0;
+    return 0;
 }
 
 int TimerTimeout(clockid_t id, int flags, const struct sigevent *notify, const uint64_t *ntime, uint64_t *otime) {
-    uint64_t left = ntime ? *ntime : 0;
+    uint64_t time = ntime ? *ntime : 0, old = next_wait.states ? next_wait.time : 0;
+    int states = flags & ~TIMER_ABSTIME;
     if (enter()) return -1;
     if (notify && SIGEV_GET_TYPE(notify) != SIGEV_UNBLOCK) return fail(EINVAL);
-    int known = _NTO_TIMEOUT_SEND | _NTO_TIMEOUT_RECEIVE | _NTO_TIMEOUT_REPLY | _NTO_TIMEOUT_JOIN;
-    int others = _NTO_TIMEOUT_CONDVAR | _NTO_TIMEOUT_INTR | _NTO_TIMEOUT_MUTEX | _NTO_TIMEOUT_NANOSLEEP |
-                 _NTO_TIMEOUT_SEM | _NTO_TIMEOUT_SIGSUSPEND | _NTO_TIMEOUT_SIGWAITINFO;
-    if (flags & known) flags &= ~others;
-    if (flags & TIMER_ABSTIME) {
-        struct timespec now;
-        if (clock_gettime(id, &now)) return -1;
-        left = left > timespec2nsec(&now) ? left - timespec2nsec(&now) : 0;
-    }
-    flags &= ~TIMER_ABSTIME;
-    join_time = flags & _NTO_TIMEOUT_JOIN && left < INT64_MAX / 2 ? left + 1 : 0;
-    return layer_TimerTimeout(id, flags & ~_NTO_TIMEOUT_JOIN, NULL, ntime ? &left : NULL, otime);
+    if (states & ~(MESSAGE_STATES | HOST_STATES)) return fail(EINVAL);
+    if (flags & TIMER_ABSTIME && time_until(id, &time)) return -1;
+    if (layer_TimerTimeout(id, states & MESSAGE_STATES, NULL, &time, NULL)) return -1;
+    if (otime) *otime = old;
+    next_wait.states = states;
+    next_wait.time = time;
+    return 0;
 }
 
 int timer_timeout(clockid_t id, int flags, const struct sigevent *notify, const struct timespec *ntime,

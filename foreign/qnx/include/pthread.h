@@ -11,7 +11,11 @@
  *   pthread_getschedparam        returns the thread's priority, and the policy that was last set, or
  *                                SCHED_RR. ESRCH as above
  *   pthread_cancel               ends a call in which the thread is blocked
- *   pthread_join                 ends with ETIMEDOUT after a TimerTimeout with _NTO_TIMEOUT_JOIN
+ *   pthread_join, pthread_mutex_lock, pthread_cond_wait
+ *                                end with ETIMEDOUT after a TimerTimeout with _NTO_TIMEOUT_JOIN, MUTEX or
+ *                                CONDVAR
+ *   pthread_mutex_timedlock, pthread_cond_timedwait
+ *                                use up such a timeout, and have only their own limit, as under QNX
  *   pthread_setname_np           sets the thread's name in neutrino_show and in a record
  */
 #pragma GCC system_header
@@ -24,6 +28,10 @@
 #pragma redefine_extname pthread_setschedprio neutrino_pthread_setschedprio
 #pragma redefine_extname pthread_cancel neutrino_pthread_cancel
 #pragma redefine_extname pthread_join neutrino_pthread_join
+#pragma redefine_extname pthread_mutex_lock neutrino_pthread_mutex_lock
+#pragma redefine_extname pthread_mutex_timedlock neutrino_pthread_mutex_timedlock
+#pragma redefine_extname pthread_cond_wait neutrino_pthread_cond_wait
+#pragma redefine_extname pthread_cond_timedwait neutrino_pthread_cond_timedwait
 #pragma redefine_extname pthread_setname_np neutrino_pthread_setname_np
 #endif
 #include <sched.h>
@@ -38,6 +46,12 @@
 #ifdef __cplusplus
 extern "C" {
 #endif
+
+/* Makes a recursive mutex. */
+#define PTHREAD_RMUTEX_INITIALIZER \
+    { \
+        { __PTHREAD_MUTEX_INITIALIZER(PTHREAD_MUTEX_RECURSIVE_NP) } \
+    }
 
 /* The host declares these two only for _GNU_SOURCE. */
 int pthread_setname_np(pthread_t thread, const char *name) __THROW;

@@ -28,6 +28,9 @@ extern "C" {
 
 #define SCHED_NOCHANGE 0x6e00 /* with this, SchedSet doesn't change the policy */
 #define SCHED_SPORADIC 0x6e01
+#define SCHED_ADJTOHEAD 0x6e02 /* SchedSet does nothing: no thread waits for a processor here */
+#define SCHED_ADJTOTAIL 0x6e03
+#define SCHED_SETPRIO SCHED_NOCHANGE
 
 /* Return and set the priority of the calling thread. pid is 0 or the program's. setprio returns the old
  * priority. -1: ESRCH (another process), EINVAL (the priority isn't from 1 to 255), and the errors of a first
