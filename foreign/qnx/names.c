@@ -38,6 +38,7 @@ name_attach_t *name_attach(dispatch_t *dpp, const char *path, unsigned flags) {
     if (!error && dpp) error = ENOTSUP;
     if (!error) chid = ChannelCreate(_NTO_CHF_UNBLOCK | _NTO_CHF_DISCONNECT | _NTO_CHF_COID_DISCONNECT);
     if (chid == -1 && !error) error = errno == EAGAIN ? EBUSY : errno;
+    if (!error) step_if_explored(DO_NAME);
     if (!error) error = enter_name(path, chid);
     if (!error) {
         attach->chid = chid;
@@ -54,6 +55,7 @@ int name_detach(name_attach_t *attach, unsigned flags) {
     (void)flags;
     if (!attach) return fail(EINVAL);
     if (neutrino_remote()) found = !neutrino_remote_unname(attach->chid);
+    step_if_explored(DO_NAME);
     hold();
     for (int at = 0; at < NAMES; at++) {
         if (!*names[at].name || names[at].chid != attach->chid) continue;
@@ -70,6 +72,7 @@ int name_detach(name_attach_t *attach, unsigned flags) {
 /* Returns the chid of a name, and sets *pid if the pid is known. */
 static int find_name(const char *name, pid_t *pid) {
     if (neutrino_remote()) return neutrino_remote_find(name, pid);
+    step_if_explored(DO_FIND_NAME);
     hold();
     int place = place_of_name(name), chid = place == -1 ? 0 : names[place].chid;
     release();

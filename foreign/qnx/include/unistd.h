@@ -2,6 +2,8 @@
 #pragma GCC system_header
 #ifndef BALSAEUCHRE_QNX_NO_WRAPPERS
 #pragma redefine_extname gettid neutrino_gettid
+#pragma redefine_extname sleep neutrino_sleep
+#pragma redefine_extname usleep neutrino_usleep
 #endif
 #include_next <unistd.h>
 #ifndef BALSAEUCHRE_QNX_UNISTD_H

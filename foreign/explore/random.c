@@ -1,0 +1,28 @@
+/* Random runs, and runs with random priorities (PCT). Tested, not proved. */
+static uint64_t random_seed(const struct search *s, uint64_t number) {
+    uint64_t seed = (s->options->seed + number) * 0x9e3779b97f4a7c15u;
+    return seed ? seed : 1;
+}
+
+static long random_begun, random_limit; /* runs */
+
+static bool next_random_run(struct search *s, struct request *r, void **origin) {
+    (void)origin;
+    if (random_limit && random_begun >= random_limit) return false;
+    r->seed = random_seed(s, (uint64_t)++random_begun);
+    r->policy = s->options->strategy == ONLY_PCT ? PCT : RANDOM;
+    r->depth = (uint32_t)s->options->depth;
+    r->expected_length = s->longest;
+    return true;
+}
+
+static void random_run_done(struct search *s, struct program *p) { note_run(s, p); }
+
+/* Makes this many random runs, or any number if that is 0. */
+static void search_random(struct search *s, long count) {
+    static const struct strategy strategy = {next_random_run, random_run_done};
+    s->name = s->options->strategy == ONLY_PCT ? "random priorities" : "random";
+    random_begun = 0;
+    random_limit = count;
+    search_by(s, &strategy);
+}

@@ -1,0 +1,10 @@
+/* The host's semaphore.h, with waits that balsaeuchre-explore can order. */
+#pragma GCC system_header
+#ifndef BALSAEUCHRE_QNX_NO_WRAPPERS
+#pragma redefine_extname sem_wait neutrino_sem_wait
+#pragma redefine_extname sem_trywait neutrino_sem_trywait
+#pragma redefine_extname sem_timedwait neutrino_sem_timedwait
+#pragma redefine_extname sem_clockwait neutrino_sem_clockwait
+#pragma redefine_extname sem_post neutrino_sem_post
+#endif
+#include_next <semaphore.h>
