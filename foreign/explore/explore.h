@@ -98,9 +98,12 @@ struct set {
 struct search {
     const struct options *options;
     struct program *programs; /* of the option's number */
-    double begun, phase_ends; /* times in seconds; phase_ends 0: no limit */
-    long runs, phase_runs;    /* phase_runs: the number of runs at which the phase ends, or 0 */
-    bool early, has_times, is_whole;
+    double begun; /* in seconds */
+    long runs;
+    bool early;     /* the second phase, in which time may go on while a thread can run */
+    bool has_times; /* a run had a time that could have come early, so there is a second phase */
+    bool is_whole;
+    bool has_cut; /* a run was ended before its end, so not all orders were made */
     uint32_t longest;
     struct finding findings[KINDS];
     int finding_count;

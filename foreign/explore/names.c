@@ -34,6 +34,7 @@ static const char *const operation_names[OPERATIONS] = {
     [DO_COND_SIGNAL] = "pthread_cond_signal",
     [DO_SEM_WAIT] = "sem_wait",
     [DO_SEM_POST] = "sem_post",
+    [DO_SEM_READ] = "sem_getvalue",
     [DO_BARRIER] = "pthread_barrier_wait",
     [DO_BARRIER_END] = "end of pthread_barrier_wait",
     [DO_ONCE] = "pthread_once",

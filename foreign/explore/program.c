@@ -162,7 +162,7 @@ static void put_request(struct program *p, const struct options *o, const struct
     run->cost = r->cost;
     run->seed = r->seed;
     run->end = NOT_ENDED;
-    run->choice_count = run->event_count = run->frame_count = 0;
+    run->choice_count = run->event_count = run->awaited_count = run->frame_count = 0;
     run->crash_signal = 0;
     run->final = 0;
     memset(run->tasks, 0, sizeof run->tasks);

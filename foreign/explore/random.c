@@ -1,6 +1,12 @@
 /* Random runs, and runs with random priorities (PCT). Tested, not proved. */
+static uint64_t mixed(uint64_t number) {
+    number = (number ^ number >> 31) * 0x9e3779b97f4a7c15u;
+    return (number ^ number >> 29) * 0xbf58476d1ce4e5b9u;
+}
+
+/* Returns the seed of a run, which shares no run with other seeds of the option. */
 static uint64_t random_seed(const struct search *s, uint64_t number) {
-    uint64_t seed = (s->options->seed + number) * 0x9e3779b97f4a7c15u;
+    uint64_t seed = mixed(mixed(s->options->seed + 1) + number);
     return seed ? seed : 1;
 }
 

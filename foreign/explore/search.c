@@ -8,13 +8,17 @@ static bool is_known(const struct search *s, struct outcome outcome) {
     return false;
 }
 
+/* Whether a second phase follows the present one. Each of them then has half of the limits. */
+static bool has_second_phase(const struct search *s) { return !s->options->no_early && !s->early && s->has_times; }
+
 static bool is_over(const struct search *s) {
     const struct options *o = s->options;
     if (s->wanted && is_known(s, *s->wanted)) return true;
     if (s->finding_count && !o->all && !s->wanted) return true;
     if (s->finding_count == KINDS) return true;
-    if (s->phase_runs && s->runs >= s->phase_runs) return true;
-    return s->phase_ends > 0 && seconds_now() > s->phase_ends;
+    double part = has_second_phase(s) ? 0.5 : 1;
+    if (o->runs && (double)s->runs >= part * (double)o->runs) return true;
+    return o->seconds > 0 && seconds_now() > s->begun + part * o->seconds;
 }
 
 static void add_member(struct set *set, uint64_t number) {
@@ -63,11 +67,15 @@ static uint64_t *copy_states(const struct explore_run *run) {
     return copies;
 }
 
+/* Whether a run was ended in its middle: what follows isn't known. */
+static bool is_cut(enum failure failure) { return failure >= FAILED_ENDLESS || failure == FAILED_ERROR; }
+
 /* Keeps the last run of a program as a finding, if it failed in a new way. */
 static void note_run(struct search *s, struct program *p) {
     const struct explore_run *run = p->run;
     s->runs++;
     s->has_times |= run->has_times != 0;
+    s->has_cut |= is_cut(p->outcome.failure);
     if (run->choice_count > s->longest) s->longest = run->choice_count;
     add_order(s, p);
     show_progress(s);

@@ -99,11 +99,12 @@ static void find_with_few(struct search *s, struct finding *f) {
     struct options options = *s->options;
     options.delays = FEW;
     options.jobs = 1;
+    options.seconds = 10;
+    options.runs = MOST_SEARCHED;
+    options.no_early = true;
     struct search few = {.options = &options,
                          .programs = s->programs,
                          .begun = seconds_now(),
-                         .phase_ends = seconds_now() + 10,
-                         .phase_runs = MOST_SEARCHED,
                          .early = f->early,
                          .wanted = &f->outcome,
                          .expected = s->expected,

@@ -108,7 +108,6 @@ void (*neutrino_signal(int signo, void (*handler)(int)))(int) {
 
 /* In an explored run the caller waits until the handler has run, but not for long: the thread may block the signal. */
 int neutrino_pthread_kill(pthread_t thread, int signo) {
-    const struct timespec brief = {0, 100000};
     if (!explores() || signo < 1 || signo >= NSIG) return pthread_kill(thread, signo);
     step_if_explored(DO_KILL);
     struct task *t = task_of(thread);
@@ -116,6 +115,6 @@ int neutrino_pthread_kill(pthread_t thread, int signo) {
     if (t && t->shown->operation == DO_SLEEP) t->is_signalled = true;
     int error = pthread_kill(thread, signo);
     bool waits = !error && t != me && atomic_load(&handlers[signo]);
-    for (int left = 1000; waits && handled == before && left; left--) nanosleep(&brief, NULL);
+    for (int left = 1000; waits && handled == before && left; left--) pause_for_host(100000);
     return error;
 }

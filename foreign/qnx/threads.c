@@ -165,11 +165,13 @@ int SchedSet(pid_t pid, int tid, int policy, const struct sched_param *param) {
     if (enter()) return -1;
     if (!param) return fail(EFAULT);
     if (pid && pid != program) return fail(ESRCH);
+    step_if_explored(DO_TABLES);
     return set_priority(named_tid(tid), policy, param->sched_priority);
 }
 
 int SchedGet(pid_t pid, int tid, struct sched_param *param) {
     if (enter()) return -1;
+    step_if_explored(DO_TABLES);
     tid = pid && pid != program ? 0 : named_tid(tid);
     struct seat s = seat_of(tid);
     if (s.use == FREE) return fail(ESRCH);

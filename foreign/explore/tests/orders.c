@@ -238,23 +238,23 @@ static void send_or_destroy(void) {
 static void attach_or_destroy(void) { run(attach_once, destroy, NULL); }
 static void creates(void) { run(create, create, attach_once); }
 
+static int main_tid;
+
 static void *set_priority(void *argument) {
     struct sched_param param = {.sched_priority = 20};
-    seen[number_of(argument)] = SchedSet(0, 2, SCHED_NOCHANGE, &param);
+    seen[number_of(argument)] = SchedSet(0, main_tid, SCHED_NOCHANGE, &param);
     return NULL;
 }
 
-/* With the sender's priority the message may overtake another one. */
-static void *pulse_by_priority(void *argument) {
-    seen[number_of(argument)] = MsgSendPulse(attach(chid), -1, 1, number_of(argument) + 1);
-    return NULL;
-}
-
+/* With the greater priority the second pulse overtakes the first one. */
 static void priorities(void) {
     struct _pulse got;
-    run(pulse_by_priority, set_priority, NULL);
-    MsgReceivePulse(chid, &got, sizeof got, NULL);
-    run(NULL, pulse_by_priority, pulse_by_priority);
+    main_tid = gettid();
+    coid = attach(chid);
+    start(0, set_priority);
+    MsgSendPulse(coid, 15, 1, 1);
+    MsgSendPulse(coid, -1, 1, 2);
+    pthread_join(threads[0], NULL);
     MsgReceivePulse(chid, &got, sizeof got, NULL);
     seen[6] = got.value.sival_int;
 }

@@ -1,6 +1,8 @@
 /* Clocks and sleeps of an explored run. Tested, not proved.
  *
  * Time begins at 1 s, and the calendar in 2026. */
+#include <sys/time.h>
+
 enum { CALENDAR = 1767225600, CLOCK_READS = 16, POLL = 1000000 };
 
 /* Returns the calendar's begin for a clock that has the calendar's time, or 0. */
@@ -35,10 +37,7 @@ static bool sleep_to(uint64_t until) {
 
 /* A program that reads the clock again and again waits for a time: it sleeps a little between the reads. */
 static void note_clock_read(void) {
-    if (++me->clock_reads <= CLOCK_READS) {
-        note_read(TIME, &(struct about){0});
-        return;
-    }
+    if (++me->clock_reads <= CLOCK_READS) return;
     sleep_to(virtual_time + POLL);
     me->clock_reads = CLOCK_READS;
 }
@@ -56,6 +55,13 @@ time_t neutrino_time(time_t *time_out) {
     time_t now = CALENDAR + (time_t)(virtual_time / 1000000000u);
     if (time_out) *time_out = now;
     return now;
+}
+
+int neutrino_gettimeofday(struct timeval *restrict time, void *restrict zone) {
+    if (!explores()) return gettimeofday(time, zone);
+    note_clock_read();
+    *time = (struct timeval){CALENDAR + (time_t)(virtual_time / 1000000000u), virtual_time % 1000000000u / 1000};
+    return 0;
 }
 
 int neutrino_nanosleep(const struct timespec *time, struct timespec *left) {

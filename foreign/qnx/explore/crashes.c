@@ -6,7 +6,8 @@ enum { CRASH_STACK = 1 << 14 };
 static const int crash_signals[] = {SIGSEGV, SIGBUS, SIGFPE, SIGILL, SIGABRT, SIGTRAP, SIGSYS};
 static char crash_stacks[TASKS][CRASH_STACK];
 
-/* Keeps the place of a crash, and sends the signal again. It comes when the handler has returned, which is gone then. */
+/* Keeps the place of a crash, and sends the signal again. It comes when the handler has returned, which is gone then.
+ */
 static void note_crash(int signo) {
     void *frames[FRAMES];
     int count = backtrace(frames, FRAMES);

@@ -15,7 +15,7 @@ enum object_kind {
     ADDRESS,    /* a lock or another object of the host, by its address */
     THREAD,     /* of a task: its life */
     THREADS,    /* the list of tasks */
-    TIME,
+    TIMERS_SET, /* the times and expiries of all timers */
     NAME_TABLE
 };
 
@@ -78,17 +78,20 @@ static const struct row rows[OPERATIONS] = {
     [DO_COND_SIGNAL] = {{CHANGES(ADDRESS)}},
     [DO_SEM_WAIT] = {{CHANGES(ADDRESS)}},
     [DO_SEM_POST] = {{CHANGES(ADDRESS)}},
+    [DO_SEM_READ] = {{READS(ADDRESS)}},
     [DO_BARRIER] = {{CHANGES(ADDRESS)}},
     [DO_BARRIER_END] = {{READS(ADDRESS)}},
     [DO_ONCE] = {{CHANGES(ADDRESS)}},
-    /* It concerns only the thread. The time at which it ends is added by uses_time. */
+    /* They concern only the thread. Time, which ends a sleep, has a row of its own. */
     [DO_SLEEP] = {{CHANGES(THREAD)}},
     [DO_YIELD] = {{CHANGES(THREAD)}},
     [DO_NAME] = {{CHANGES(NAME_TABLE)}},
     [DO_FIND_NAME] = {{READS(NAME_TABLE)}},
-    [DO_SET_TIMER] = {{CHANGES(TIME)}},
-    [DO_EXPIRE] = {{CHANGES(TIME)}},
-    [DO_TIME] = {{CHANGES(TIME)}},
+    /* A timer that is set again has not expired. */
+    [DO_SET_TIMER] = {{CHANGES(TIMERS_SET)}},
+    [DO_EXPIRE] = {{CHANGES(TIMERS_SET)}},
+    /* A thread may read the clock, begin a timed wait, or end another thread's wait, after any operation. */
+    [DO_TIME] = {{CHANGES(EVERYTHING)}},
     /* A Send or a Receive that times out: it leaves the queue, or ends or marks its message. */
     [DO_TIME_OUT] = {{CHANGES(QUEUE), READS(ENDS), CHANGES(HELD), CHANGES(MESSAGE)}},
     /* Rare operations that use any thread. */
@@ -135,7 +138,7 @@ static uint64_t object_of(enum object_kind kind, const struct about *about) {
         break;
     case EVERYTHING:
     case THREADS:
-    case TIME:
+    case TIMERS_SET:
     case NAME_TABLE:
         break;
     }

@@ -25,11 +25,6 @@ static struct object *object_at(uint64_t number) {
     return &objects[at];
 }
 
-/* Adds to an object's reads, for a read that isn't an event of its own. */
-static void note_read(enum object_kind kind, const struct about *about) {
-    object_at(object_of(kind, about))->read += me->past;
-}
-
 /* Marks that the last event has ended the wait of a task, which now depends on it. */
 static void note_ended(const struct task *t) {
     if (run->event_count) run->events[(run->event_count - 1) % EVENTS].ended |= 1ull << index_of(t);

@@ -25,6 +25,7 @@ static void begin_task(struct task *t) {
     me->thread = pthread_self();
     use_crash_stack();
     sleep_until_turn(me);
+    begin_turn();
     note_event(me, DO_START, me->accesses);
     look_again();
 }

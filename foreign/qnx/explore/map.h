@@ -51,6 +51,7 @@ enum operation {
     DO_COND_SIGNAL,
     DO_SEM_WAIT,
     DO_SEM_POST,
+    DO_SEM_READ,
     DO_BARRIER,
     DO_BARRIER_END,
     DO_ONCE,
@@ -112,9 +113,10 @@ struct explore_run {
     uint8_t plan[CHOICES];
     /* written by the run */
     uint32_t end, choice_count, event_count, has_tsan;
-    uint64_t final;     /* the state at the end: one for each order of dependent operations */
-    uint32_t running;   /* the task that has the turn */
-    uint32_t has_times; /* at a choice there was a time at which a timer, a timeout or a sleep ends */
+    uint32_t awaited_count; /* of operations for which tasks waited at the end; they follow the events */
+    uint64_t final;         /* the state at the end: one for each order of dependent operations */
+    uint32_t running;       /* the task that has the turn */
+    uint32_t has_times;     /* at a choice there was a time at which a timer, a timeout or a sleep ends */
     int32_t failed_error;
     int32_t crash_signal; /* or 0 */
     uint32_t frame_count;

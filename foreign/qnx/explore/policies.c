@@ -11,23 +11,14 @@ static int nth(uint64_t set, unsigned n) {
     return __builtin_ctzll(set);
 }
 
-/* Returns the task that had its turn longest ago. */
-static int oldest(uint64_t enabled) {
-    int found = -1;
-    for (; enabled; enabled &= enabled - 1) {
-        int at = __builtin_ctzll(enabled);
-        if (found == -1 || tasks[at].last_turn < tasks[found].last_turn) found = at;
-    }
-    return found;
-}
-
-/* The policy CONTINUE: the same task goes on, unless it waits or yields. */
+/* The policy CONTINUE: the same task goes on, unless it waits or yields. Then it is the next one's turn, in a circle.
+ * The choice depends only on the tasks that can run and on the last one, so it is the same wherever the state is. */
 static int continue_with(uint64_t enabled) {
     unsigned own = index_of(last);
-    uint64_t others = enabled & ~(1ull << own);
+    uint64_t others = enabled & ~(1ull << own), later = others & ~0ull << own;
     bool yields = last->shown->operation == DO_YIELD && others;
     if (enabled >> own & 1 && !yields) return (int)own;
-    return oldest(others ? others : enabled);
+    return __builtin_ctzll(later ? later : others);
 }
 
 static int by_random(uint64_t enabled) {

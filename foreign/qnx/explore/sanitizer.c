@@ -24,6 +24,17 @@ static void acquire_order(void *at) {
     if (has_tsan()) __tsan_acquire(at);
 }
 
+/* Orders the uses of the table of names, and the uses of timers, as a lock of each would. */
+static void order_uses(uint32_t operation) {
+    static char names, timers_set;
+    char *at = NULL;
+    if (operation == DO_NAME || operation == DO_FIND_NAME) at = &names;
+    if (operation == DO_SET_TIMER || operation == DO_EXPIRE) at = &timers_set;
+    if (!at) return;
+    acquire_order(at);
+    release_order(at);
+}
+
 static void look_away(void) {
     if (!exploring || !has_tsan()) return;
     AnnotateIgnoreSyncBegin(__FILE__, __LINE__);

@@ -38,6 +38,11 @@ int neutrino_sem_post(sem_t *sem) {
     return sem_post(sem);
 }
 
+int neutrino_sem_getvalue(sem_t *sem, int *value) {
+    if (explores()) step(DO_SEM_READ, &(struct about){.address = sem});
+    return sem_getvalue(sem, value);
+}
+
 /* ---- barriers: how many threads each waits for, and how many have come */
 
 enum { BARRIERS = 256 };

@@ -24,7 +24,13 @@ static void serve_runs(void) {
 static void step_exit(void) {
     if (!explores()) return;
     step_if_explored(DO_EXIT);
-    run->final = total;
+    note_end();
+}
+
+/* The end of the program without its functions of atexit. */
+_Noreturn void neutrino__exit(int status) {
+    step_exit();
+    _exit(status);
 }
 
 static void refuse_fork(void) {

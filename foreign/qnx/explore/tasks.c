@@ -69,15 +69,20 @@ static unsigned task_of_tid(int tid) {
     return TASKS;
 }
 
+/* Lets the host's other threads run. The host's own nanosleep would end a cancelled thread. */
+static void pause_for_host(long nanoseconds) {
+    const struct timespec time = {0, nanoseconds};
+    syscall(SYS_clock_nanosleep, CLOCK_MONOTONIC, 0, &time, NULL);
+}
+
 /* Waits until the thread that gave its turn at its end has left the process. So what the host does at a thread's end
  * comes before the next operation, and memory gets the same addresses in each run. */
 static void await_exit(void) {
     enum { LOOKS = 5000 };
-    const struct timespec brief = {0, 20000};
     if (exiting == getpid()) exiting = 0; /* the main thread stays until the process ends */
     for (int looks = 0; exiting && looks < LOOKS; looks++) {
         if (syscall(SYS_tgkill, getpid(), exiting, 0)) break;
-        nanosleep(&brief, NULL);
+        pause_for_host(20000);
     }
     exiting = 0;
 }

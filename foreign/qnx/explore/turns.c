@@ -9,10 +9,32 @@ static uint64_t next_expiry(void);
 static void expire_timers(void);
 static void show_waits(void);
 
+/* Whether a task waits until it may make an operation that is an event of its own. */
+static bool waits_to_make(const struct task *t) {
+    uint8_t operation = t->shown->operation;
+    bool may_wait = operation == DO_LOCK || operation == DO_READ_LOCK || operation == DO_SEM_WAIT ||
+                    operation == DO_ONCE;
+    return may_wait && !is_enabled(t);
+}
+
+/* Notes the state at the end of the run, and the operations for which tasks wait. They aren't made, but could have
+ * been made in another order. */
+static void note_end(void) {
+    uint32_t before = run->event_count;
+    run->final = total;
+    for (int at = 0; at < TASKS; at++) {
+        const struct task *t = &tasks[at];
+        bool is_noted = life_of(t) == PRESENT && waits_to_make(t) && run->event_count < EVENTS;
+        if (is_noted) append_event(t, t->shown->operation, t->accesses);
+    }
+    run->awaited_count = run->event_count - before;
+    run->event_count = before;
+}
+
 /* Ends the run before the program's end. */
 _Noreturn static void end_run(enum explore_end end) {
     run->end = end;
-    run->final = total;
+    note_end();
     if (end != VISITED) show_waits();
     _exit(125);
 }
@@ -27,7 +49,8 @@ static uint64_t next_time(void) {
     return next;
 }
 
-static void advance_to(uint64_t time) {
+/* If no task could run, all that tasks do from now on comes after this event. */
+static void advance_to(uint64_t time, bool could_run) {
     static struct task host;
     struct access accesses[ACCESSES];
     set_accesses(accesses, DO_TIME, &(struct about){0});
@@ -36,9 +59,10 @@ static void advance_to(uint64_t time) {
     expire_timers();
     for (int at = 0; at < TASKS; at++) {
         struct task *t = &tasks[at];
-        if (life_of(t) != PRESENT || !t->until || t->until > virtual_time || is_enabled(t)) continue;
-        t->is_late = true;
-        note_ended(t);
+        if (life_of(t) != PRESENT) continue;
+        bool comes = t->until && t->until <= virtual_time && !is_enabled(t);
+        t->is_late |= comes;
+        if (comes || !could_run) note_ended(t);
     }
 }
 
@@ -90,8 +114,18 @@ static struct task *pick(void) {
         if (run->early && next != NEVER) enabled |= CLOCK_BIT;
         int chosen = enabled ? choose(enabled) : CLOCK;
         if (chosen != CLOCK) return &tasks[chosen];
-        advance_to(next);
+        advance_to(next, enabled != 0);
     }
+}
+
+/* Forgets for what the caller has waited, now that it has its turn. Returns whether its time has come. */
+static bool begin_turn(void) {
+    me->can_run = NULL;
+    me->takes_cancel = false;
+    me->until = 0;
+    me->clock_reads = 0;
+    me->is_resuming = false;
+    return me->is_late;
 }
 
 /* Gives the turn, until the caller has it again. Returns whether the caller's time has come. */
@@ -104,13 +138,7 @@ static bool give_turn(void) {
         pass_turn(next);
         sleep_until_turn(me);
     }
-    bool is_late = me->is_late;
-    me->can_run = NULL;
-    me->takes_cancel = false;
-    me->until = 0;
-    me->clock_reads = 0;
-    me->is_resuming = false;
-    return is_late;
+    return begin_turn();
 }
 
 /* States the operation that the caller is about to make. */
@@ -146,13 +174,13 @@ struct wait {
 static bool step_until(uint32_t operation, const struct about *about, const struct wait *wait) {
     if (me->atomic) return false;
     state_operation(operation, about);
-    if (wait->until) add_access(me, TIME, about, false);
     me->can_run = wait->can_run;
     me->takes_cancel = is_cancellation_point(operation);
     me->awaited = wait->awaited;
     me->until = wait->until;
     bool is_late = give_turn();
     note_event(me, operation, me->accesses);
+    order_uses(operation);
     return is_late;
 }
 

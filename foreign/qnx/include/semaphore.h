@@ -6,5 +6,6 @@
 #pragma redefine_extname sem_timedwait neutrino_sem_timedwait
 #pragma redefine_extname sem_clockwait neutrino_sem_clockwait
 #pragma redefine_extname sem_post neutrino_sem_post
+#pragma redefine_extname sem_getvalue neutrino_sem_getvalue
 #endif
 #include_next <semaphore.h>
