@@ -9,8 +9,9 @@ static void write_kept(const struct options *o, const struct finding *f) {
     if (!file) give_up("%s: %s", o->kept, strerror(errno));
     fprintf(file, "%s\n", kept_first);
     for (char **word = o->words; *word; word++) fprintf(file, "word %s\n", *word);
-    fprintf(file, "calls %ld\nerrors %d\nearly %d\nfailure %d %d\n", o->calls, o->errors, f->early,
-            (int)f->outcome.failure, f->outcome.detail);
+    if (o->expect && strcmp(o->expect, "-")) fprintf(file, "expect %s\n", o->expect);
+    fprintf(file, "calls %ld\nerrors %d\nsteps %d\nearly %d\nfailure %d %d\n", o->calls, o->errors, o->every_step,
+            f->early, (int)f->outcome.failure, f->outcome.detail);
     for (uint32_t at = 0; at < f->length; at++)
         fprintf(file, "choice %u %u %016llx\n", at + 1, f->choices[at], (unsigned long long)f->states[at]);
     if (fclose(file)) give_up("%s: %s", o->kept, strerror(errno));
@@ -38,7 +39,9 @@ static bool read_line(struct options *o, struct finding *f, const char *line, in
     int failure, detail, flag;
     if (!strncmp(line, "word ", 5)) return add_word(o, words, line + 5), true;
     if (sscanf(line, "calls %ld", &o->calls) == 1) return true;
+    if (!strncmp(line, "expect ", 7)) return (o->expect = strdup(line + 7)) != NULL;
     if (sscanf(line, "errors %d", &flag) == 1) return o->errors = flag, true;
+    if (sscanf(line, "steps %d", &flag) == 1) return o->every_step = flag, true;
     if (sscanf(line, "early %d", &flag) == 1) return f->early = flag, true;
     if (sscanf(line, "failure %d %d", &failure, &detail) == 2) {
         f->outcome = (struct outcome){(enum failure)failure, detail};

@@ -45,7 +45,7 @@ static const char *const operation_names[OPERATIONS] = {
     [DO_SET_TIMER] = "timer_settime",
     [DO_EXPIRE] = "expiry of timers",
     [DO_TIME_OUT] = "timeout",
-    [DO_TIME] = "time goes on",
+    [DO_TIME] = "time passes",
     [DO_TABLES] = "connection data",
     [DO_CANCEL] = "pthread_cancel",
     [DO_KILL] = "pthread_kill",
@@ -74,7 +74,7 @@ static const char *task_name(const struct explore_run *run, unsigned task, char 
 /* Writes an operation with its thread, such as `t2: MsgReply to t3, channel 1`. */
 static const char *event_words(const struct explore_run *run, const struct explore_event *e, char words[WORDS]) {
     char name[WORDS], other[WORDS] = "", channel[32] = "";
-    if (e->operation == DO_TIME) return snprintf(words, WORDS, "time goes on"), words;
+    if (e->operation == DO_TIME) return snprintf(words, WORDS, "time passes"), words;
     if (e->operation < DO_START && e->other < TASKS) {
         char client[WORDS];
         const char *before = e->operation == CALL_REPLY || e->operation == CALL_ERROR ? "to" : "for";

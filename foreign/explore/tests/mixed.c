@@ -1,6 +1,7 @@
-/* mixed SEED: two threads, each with some random operations, for the table of dependent operations
- * (foreign/qnx/explore/dependence.c). It prints what the threads have seen. mixed SEED OPERATIONS has that many
- * operations a thread. The main thread joins only the first one if the seed is odd. */
+/* mixed [SEED]: two threads with random operations, for the table of dependent operations
+ * (foreign/qnx/explore/dependence.c). It prints what the threads have seen. Up to the seed 100 each thread has one
+ * operation, and from there on two. The main thread doesn't wait for the second thread if the seed is odd. Without a
+ * seed it prints the seeds of the test. */
 #include <errno.h>
 #include <pthread.h>
 #include <semaphore.h>
@@ -12,7 +13,7 @@
 #include <sys/neutrino.h>
 #include <time.h>
 
-enum { THREADS = 2, MOST = 4, CHANNELS = 2 };
+enum { THREADS = 2, MOST = 2, CHANNELS = 2 };
 static const uint64_t brief = 1000000;
 
 static int chids[CHANNELS], coids[CHANNELS], held, seen[THREADS + 1][MOST];
@@ -218,12 +219,25 @@ static void choose_work(unsigned seed, int count) {
     }
 }
 
-int main(int argument_count, char **words) {
+static void print_seeds(void) {
+    for (int seed = 1; seed <= 130; seed++) printf("%d\n", seed);
+}
+
+/* Prints what the threads have seen. */
+static void print_seen(void) {
+    for (int thread = 0; thread <= THREADS; thread++) {
+        for (int at = 0; at < MOST; at++) printf("%d ", seen[thread][at]);
+    }
+}
+
+int main(int count, char **words) {
     pthread_t threads[THREADS];
-    unsigned seed = argument_count > 1 ? (unsigned)atoi(words[1]) : 0;
-    int count = argument_count > 2 ? atoi(words[2]) : 2;
-    if (count < 1 || count > MOST) return 2;
-    choose_work(seed, count);
+    unsigned seed = count > 1 ? (unsigned)atoi(words[1]) : 0;
+    if (!seed) {
+        print_seeds();
+        return 0;
+    }
+    choose_work(seed, seed <= 100 ? 1 : MOST);
     chids[0] = ChannelCreate(_NTO_CHF_UNBLOCK | _NTO_CHF_DISCONNECT);
     chids[1] = ChannelCreate(0);
     for (int at = 0; at < CHANNELS; at++) coids[at] = ConnectAttach(ND_LOCAL_NODE, 0, chids[at], _NTO_SIDE_CHANNEL, 0);
@@ -233,8 +247,6 @@ int main(int argument_count, char **words) {
         if (at == 0 || seed % 2 == 0) pthread_join(threads[at], NULL);
     }
     if (seed % 3 == 0) seen[THREADS][0] = open_name(1);
-    for (int thread = 0; thread <= THREADS; thread++) {
-        for (int at = 0; at < MOST; at++) printf("%d ", seen[thread][at]);
-    }
+    print_seen();
     return 0;
 }

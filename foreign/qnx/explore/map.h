@@ -9,7 +9,7 @@
 #include <stdatomic.h>
 #include <stdint.h>
 
-/* A choice is the index of a task, or CLOCK: time goes on. A task is a thread of an explored run; the first is the main
+/* A choice is the index of a task, or CLOCK: time passes. A task is a thread of an explored run; the first is the main
  * thread, and the others follow in the order of their creation. SERVICE is the front's own thread. In a plan
  * DEFAULT_CHOICE stands for the choice that the policy CONTINUE makes. */
 enum { TASKS = 63, SERVICE = TASKS - 1, CLOCK = TASKS, DEFAULT_CHOICE = 255 };
@@ -62,7 +62,7 @@ enum operation {
     DO_SET_TIMER,
     DO_EXPIRE, /* the front's own thread sends the pulses of timers and handlers */
     DO_TIME_OUT,
-    DO_TIME,   /* time goes on */
+    DO_TIME,   /* time passes */
     DO_TABLES, /* reads or changes the front's tables */
     DO_CANCEL,
     DO_KILL,

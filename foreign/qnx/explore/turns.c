@@ -128,8 +128,10 @@ static bool begin_turn(void) {
     return me->is_late;
 }
 
-/* Gives the turn, until the caller has it again. Returns whether the caller's time has come. */
+/* Gives the turn, until the caller has it again. Returns whether the caller's time has come. Keeps errno, which the
+ * host's functions for threads don't change either. */
 static bool give_turn(void) {
+    int before = errno;
     if (me->until && me->until <= virtual_time) me->is_late = true;
     struct task *next = pick();
     if (next == me) {
@@ -138,6 +140,7 @@ static bool give_turn(void) {
         pass_turn(next);
         sleep_until_turn(me);
     }
+    errno = before;
     return begin_turn();
 }
 
