@@ -91,10 +91,10 @@ static int channel_of(dispatch_t *dpp, unsigned flags) {
 int dispatch_timeout(dispatch_t *dpp, struct timespec *reltime) {
     bool is_wrong = reltime && (reltime->tv_sec < 0 || reltime->tv_nsec < 0 || reltime->tv_nsec >= 1000000000);
     if (!dpp || is_wrong) return fail(EINVAL);
-    pthread_mutex_lock(&dpp->lock);
+    ordered_mutex_lock(&dpp->lock);
     dpp->has_limit = reltime;
     dpp->limit = reltime ? timespec2nsec(reltime) : 0;
-    pthread_mutex_unlock(&dpp->lock);
+    neutrino_pthread_mutex_unlock(&dpp->lock);
     return 0;
 }
 
@@ -138,11 +138,11 @@ int message_attach(dispatch_t *dpp, message_attr_t *attr, int low, int high, han
     struct attached_function new = {is_range ? MESSAGES : OTHERS, low, high, flags, func, handle};
     if (!dpp || !func || flags & ~(MSG_FLAG_CROSS_ENDIAN | MSG_FLAG_DEFAULT_FUNC)) return fail(EINVAL);
     if (is_range && (low < 0 || high < low || high > HIGHEST_TYPE)) return fail(EINVAL);
-    pthread_mutex_lock(&dpp->lock);
+    ordered_mutex_lock(&dpp->lock);
     int error = add_function(dpp, &new);
     if (!error && attr && attr->msg_max_size > dpp->room) dpp->room = attr->msg_max_size;
     if (!error && attr && attr->nparts_max > dpp->parts) dpp->parts = attr->nparts_max;
-    pthread_mutex_unlock(&dpp->lock);
+    neutrino_pthread_mutex_unlock(&dpp->lock);
     return error ? fail(error) : 0;
 }
 
@@ -159,18 +159,18 @@ static int place_of_range(const dispatch_t *dpp, int low, int high) {
 int message_detach(dispatch_t *dpp, int low, int high, unsigned flags) {
     (void)flags;
     if (!dpp) return fail(EINVAL);
-    pthread_mutex_lock(&dpp->lock);
+    ordered_mutex_lock(&dpp->lock);
     int place = place_of_range(dpp, low, high);
     if (place != -1) remove_function(dpp, place);
-    pthread_mutex_unlock(&dpp->lock);
+    neutrino_pthread_mutex_unlock(&dpp->lock);
     return place == -1 ? fail(EINVAL) : 0;
 }
 
 int message_connect(dispatch_t *dpp, int flags) {
     if (!dpp || (unsigned)flags & ~MSG_FLAG_SIDE_CHANNEL) return fail(EINVAL);
-    pthread_mutex_lock(&dpp->lock);
+    ordered_mutex_lock(&dpp->lock);
     int chid = dpp->chid;
-    pthread_mutex_unlock(&dpp->lock);
+    neutrino_pthread_mutex_unlock(&dpp->lock);
     if (chid == -1) return fail(EINVAL);
     return ConnectAttach(ND_LOCAL_NODE, 0, chid, flags ? SIDE : 0, 0);
 }
@@ -186,21 +186,21 @@ int pulse_attach(dispatch_t *dpp, int flags, int code, handling_function func, v
     bool chooses = (unsigned)flags & MSG_FLAG_ALLOC_PULSE;
     if (!dpp || !func || (unsigned)flags & ~MSG_FLAG_ALLOC_PULSE) return fail(EINVAL);
     if (!chooses && (code < INT8_MIN || code > INT8_MAX)) return fail(EINVAL);
-    pthread_mutex_lock(&dpp->lock);
+    ordered_mutex_lock(&dpp->lock);
     if (chooses) code = free_code(dpp);
     struct attached_function new = {PULSES, code, code, 0, func, handle};
     int error = chooses && code == -1 ? EAGAIN : add_function(dpp, &new);
-    pthread_mutex_unlock(&dpp->lock);
+    neutrino_pthread_mutex_unlock(&dpp->lock);
     return error ? fail(error) : code;
 }
 
 int pulse_detach(dispatch_t *dpp, int code, int flags) {
     (void)flags;
     if (!dpp) return fail(EINVAL);
-    pthread_mutex_lock(&dpp->lock);
+    ordered_mutex_lock(&dpp->lock);
     int place = place_of_code(dpp, PULSES, code);
     if (place != -1) remove_function(dpp, place);
-    pthread_mutex_unlock(&dpp->lock);
+    neutrino_pthread_mutex_unlock(&dpp->lock);
     return place == -1 ? fail(EINVAL) : 0;
 }
 
@@ -212,10 +212,10 @@ static struct context *context_of(dispatch_context_t *ctp) {
 
 dispatch_context_t *dispatch_context_alloc(dispatch_t *dpp) {
     if (!dpp) return null_with(EINVAL);
-    pthread_mutex_lock(&dpp->lock);
+    ordered_mutex_lock(&dpp->lock);
     size_t room = dpp->room, parts = dpp->parts;
     bool is_used = dpp->is_used;
-    pthread_mutex_unlock(&dpp->lock);
+    neutrino_pthread_mutex_unlock(&dpp->lock);
     if (!is_used) return null_with(EINVAL);
     struct context *c = allocate(sizeof *c + parts * sizeof(iov_t));
     void *bytes = calloc(1, room);
@@ -242,28 +242,28 @@ void dispatch_context_free(dispatch_context_t *ctp) {
 
 /* Notes that the calling thread receives in this context, unless the context is to be unblocked. */
 static bool begin_block(struct context *c) {
-    pthread_mutex_lock(&c->lock);
+    ordered_mutex_lock(&c->lock);
     bool may = !c->unblocks;
     c->unblocks = false;
     c->tid = may ? seat : 0;
-    pthread_mutex_unlock(&c->lock);
+    neutrino_pthread_mutex_unlock(&c->lock);
     return may;
 }
 
 static void end_block(struct context *c, bool is_interrupted) {
-    pthread_mutex_lock(&c->lock);
+    ordered_mutex_lock(&c->lock);
     c->tid = 0;
     if (is_interrupted) c->unblocks = false;
-    pthread_mutex_unlock(&c->lock);
+    neutrino_pthread_mutex_unlock(&c->lock);
 }
 
 static void end_block_of_cancelled(void *c) { end_block(c, true); }
 
 /* Gives a context the room for the handle's longest message, which may have grown. Returns 0 or an errno. */
 static int make_room(message_context_t *m) {
-    pthread_mutex_lock(&m->dpp->lock);
+    ordered_mutex_lock(&m->dpp->lock);
     size_t room = m->dpp->room;
-    pthread_mutex_unlock(&m->dpp->lock);
+    neutrino_pthread_mutex_unlock(&m->dpp->lock);
     if (room <= m->msg_max_size) return 0;
     void *longer = realloc(m->msg, room);
     if (!longer) return ENOMEM;
@@ -274,11 +274,11 @@ static int make_room(message_context_t *m) {
 
 /* Returns the handle's channel, and sets the handle's timeout for the next receive. */
 static int limit_receive(dispatch_t *dpp) {
-    pthread_mutex_lock(&dpp->lock);
+    ordered_mutex_lock(&dpp->lock);
     int chid = dpp->chid;
     bool has_limit = dpp->has_limit;
     uint64_t limit = dpp->limit;
-    pthread_mutex_unlock(&dpp->lock);
+    neutrino_pthread_mutex_unlock(&dpp->lock);
     if (has_limit) TimerTimeout(CLOCK_MONOTONIC, _NTO_TIMEOUT_RECEIVE, NULL, &limit, NULL);
     return chid;
 }
@@ -316,34 +316,34 @@ dispatch_context_t *dispatch_block(dispatch_context_t *ctp) {
 void dispatch_unblock(dispatch_context_t *ctp) {
     struct context *c = context_of(ctp);
     if (!c || enter()) return;
-    pthread_mutex_lock(&c->lock);
+    ordered_mutex_lock(&c->lock);
     c->unblocks = true;
     while (c->unblocks && c->tid) {
         neutrino_unblock(c->tid);
-        pthread_mutex_unlock(&c->lock);
+        neutrino_pthread_mutex_unlock(&c->lock);
         usleep(RETRY); /* the thread may not have begun its receive yet */
-        pthread_mutex_lock(&c->lock);
+        ordered_mutex_lock(&c->lock);
     }
-    pthread_mutex_unlock(&c->lock);
+    neutrino_pthread_mutex_unlock(&c->lock);
 }
 
 /* ---- handling */
 
 /* Copies the function for a pulse or a message of this code. Returns whether there is one. */
 static bool find_function(dispatch_t *dpp, enum attached kind, int code, struct attached_function *found) {
-    pthread_mutex_lock(&dpp->lock);
+    ordered_mutex_lock(&dpp->lock);
     int place = place_of_code(dpp, kind, code);
     if (place == -1 && kind == MESSAGES) place = place_of_code(dpp, OTHERS, code);
     if (place != -1) *found = dpp->functions[place];
-    pthread_mutex_unlock(&dpp->lock);
+    neutrino_pthread_mutex_unlock(&dpp->lock);
     return place != -1;
 }
 
 /* Replies to a message that no function has. */
 static void answer_unknown(const message_context_t *m, int type) {
-    pthread_mutex_lock(&m->dpp->lock);
+    ordered_mutex_lock(&m->dpp->lock);
     bool is_open = type == _IO_CONNECT && m->dpp->has_name;
-    pthread_mutex_unlock(&m->dpp->lock);
+    neutrino_pthread_mutex_unlock(&m->dpp->lock);
     if (is_open) MsgReply(m->rcvid, EOK, NULL, 0);
     else MsgError(m->rcvid, ENOSYS);
 }

@@ -46,11 +46,11 @@ static int watch_file(int at, int operation) {
 
 /* Attaches the handle to its own channel, for the pulses about files. Returns 0 or an errno. */
 static int connect_files(dispatch_t *dpp) {
-    pthread_mutex_lock(&dpp->lock);
+    ordered_mutex_lock(&dpp->lock);
     int chid = channel_of(dpp, _NTO_CHF_UNBLOCK | _NTO_CHF_DISCONNECT);
     if (chid != -1 && dpp->coid == -1) dpp->coid = ConnectAttach(ND_LOCAL_NODE, 0, chid, SIDE, 0);
     int error = chid == -1 || dpp->coid == -1 ? errno : 0;
-    pthread_mutex_unlock(&dpp->lock);
+    neutrino_pthread_mutex_unlock(&dpp->lock);
     return error;
 }
 

@@ -51,23 +51,26 @@ static _Thread_local struct {
     uint64_t time;
 } next_wait;
 
+static bool exploring; /* the run is explored (explore/tasks.c) */
 static pthread_mutex_t front = PTHREAD_MUTEX_INITIALIZER;
 /* Above 0: the thread has the front's lock, or uses the buffers of its seat. Its own signal handlers read
  * this. */
 static _Thread_local volatile sig_atomic_t holding;
 static _Thread_local int cancel_state; /* the thread's cancellation state before it took the lock */
 
+/* In an explored run one thread runs at a time, and a call may give the turn while the lock is held. So there the lock
+ * isn't taken. */
 static void hold(void) {
     int state;
     pthread_setcancelstate(PTHREAD_CANCEL_DISABLE, &state);
     holding++;
-    pthread_mutex_lock(&front);
+    if (!exploring) pthread_mutex_lock(&front);
     cancel_state = state;
 }
 
 static void release(void) {
     int state = cancel_state, ignored;
-    pthread_mutex_unlock(&front);
+    if (!exploring) pthread_mutex_unlock(&front);
     holding--;
     pthread_setcancelstate(state, &ignored);
 }

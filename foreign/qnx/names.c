@@ -33,24 +33,25 @@ static int enter_name(const char *name, int chid) {
 
 /* Returns the channel of a handle, which then has its name. Returns -1 and sets errno on an error. */
 static int channel_for_name(dispatch_t *dpp) {
-    pthread_mutex_lock(&dpp->lock);
+    ordered_mutex_lock(&dpp->lock);
     int chid = dpp->has_name ? fail(EBUSY)
                              : channel_of(dpp, _NTO_CHF_UNBLOCK | _NTO_CHF_DISCONNECT | _NTO_CHF_COID_DISCONNECT);
     dpp->has_name |= chid != -1;
-    pthread_mutex_unlock(&dpp->lock);
+    neutrino_pthread_mutex_unlock(&dpp->lock);
     return chid;
 }
 
 static void take_name_away(dispatch_t *dpp) {
-    pthread_mutex_lock(&dpp->lock);
+    ordered_mutex_lock(&dpp->lock);
     dpp->has_name = false;
-    pthread_mutex_unlock(&dpp->lock);
+    neutrino_pthread_mutex_unlock(&dpp->lock);
 }
 
 /* Gives a handle a name. Returns 0 or an errno. */
 static int attach_name(dispatch_t *dpp, const char *path, name_attach_t *attach) {
     int chid = channel_for_name(dpp);
     if (chid == -1) return errno == EAGAIN ? EBUSY : errno;
+    step_if_explored(DO_NAME);
     int error = enter_name(path, chid);
     if (error) take_name_away(dpp);
     *attach = (name_attach_t){.dpp = dpp, .chid = chid};
@@ -73,6 +74,7 @@ name_attach_t *name_attach(dispatch_t *dpp, const char *path, unsigned flags) {
 /* Removes the first name of a channel from the program's table. Returns whether there was one. */
 static bool remove_name(int chid) {
     int at = 0;
+    step_if_explored(DO_NAME);
     hold();
     while (at < NAMES && (!*names[at].name || names[at].chid != chid)) at++;
     if (at < NAMES) *names[at].name = 0;
@@ -93,6 +95,7 @@ int name_detach(name_attach_t *attach, unsigned flags) {
 /* Returns the chid of a name, and sets *pid if the pid is known. */
 static int find_name(const char *name, pid_t *pid) {
     if (neutrino_remote()) return neutrino_remote_find(name, pid);
+    step_if_explored(DO_FIND_NAME);
     hold();
     int place = place_of_name(name), chid = place == -1 ? 0 : names[place].chid;
     release();

@@ -4,6 +4,7 @@ int ConnectServerInfo(pid_t pid, int coid, struct _server_info *info) {
     if (pid && pid != program) return fail(ESRCH);
     if (!info) return fail(EFAULT);
     int found = 0;
+    step_if_explored(DO_TABLES);
     memset(info, 0, sizeof *info);
     info->nd = info->srcnd = ND_LOCAL_NODE;
     info->scoid = neutrino_remote() ? neutrino_remote_scoid() : SIDE | PROGRAM;

@@ -78,7 +78,7 @@ static void remove_worker(struct worker *w) {
     set_ready(w, false);
     pool->leaving -= w->leaves;
     pool->created--;
-    pthread_cond_broadcast(&pool->changed);
+    neutrino_pthread_cond_broadcast(&pool->changed);
     free(w);
 }
 
@@ -114,7 +114,7 @@ static void fill_pool(thread_pool_t *pool) {
 /* A worker goes to block. Returns false if it has to end: the pool ends, or has too many workers. */
 static bool begin_wait(struct worker *w) {
     thread_pool_t *pool = w->pool;
-    pthread_mutex_lock(&pool->lock);
+    ordered_mutex_lock(&pool->lock);
     int others = pool->ready - w->is_ready, all = pool->created - pool->leaving;
     bool is_surplus = !w->is_self && (others >= pool->attr.hi_water || all > pool->attr.maximum);
     bool goes_on = !pool->ends && !is_surplus;
@@ -122,21 +122,21 @@ static bool begin_wait(struct worker *w) {
     w->is_blocked = goes_on;
     w->leaves = is_surplus;
     pool->leaving += is_surplus;
-    if (goes_on) pthread_cond_broadcast(&pool->changed);
-    pthread_mutex_unlock(&pool->lock);
+    if (goes_on) neutrino_pthread_cond_broadcast(&pool->changed);
+    neutrino_pthread_mutex_unlock(&pool->lock);
     return goes_on;
 }
 
 /* A worker has something to handle in a context, or was unblocked. */
 static void end_wait(struct worker *w, void *context) {
     thread_pool_t *pool = w->pool;
-    pthread_mutex_lock(&pool->lock);
+    ordered_mutex_lock(&pool->lock);
     set_ready(w, false);
     if (context) {
         w->context = context;
         fill_pool(pool);
     }
-    pthread_mutex_unlock(&pool->lock);
+    neutrino_pthread_mutex_unlock(&pool->lock);
 }
 
 /* Blocks and handles in turn, until the worker has to end. */
@@ -157,13 +157,13 @@ static void end_work(void *own) {
     struct worker *w = own;
     thread_pool_t *pool = w->pool;
     void (*context_free)(void *) = pool->attr.context_free;
-    pthread_mutex_lock(&pool->lock);
+    ordered_mutex_lock(&pool->lock);
     set_ready(w, false);
-    pthread_mutex_unlock(&pool->lock);
+    neutrino_pthread_mutex_unlock(&pool->lock);
     if (context_free && w->context) context_free(w->context);
-    pthread_mutex_lock(&pool->lock);
+    ordered_mutex_lock(&pool->lock);
     remove_worker(w);
-    pthread_mutex_unlock(&pool->lock);
+    neutrino_pthread_mutex_unlock(&pool->lock);
 }
 
 static void *work(void *own) {
@@ -197,10 +197,10 @@ int thread_pool_start(void *own) {
     thread_pool_t *pool = own;
     struct worker *self = NULL;
     if (!pool) return fail(EINVAL);
-    pthread_mutex_lock(&pool->lock);
+    ordered_mutex_lock(&pool->lock);
     unsigned flags = pool->flags;
     int error = pool->has_started ? EINVAL : start_workers(pool, &self);
-    pthread_mutex_unlock(&pool->lock);
+    neutrino_pthread_mutex_unlock(&pool->lock);
     if (error) return fail(error);
     if (self) work(self);
     if (flags & POOL_FLAG_EXIT_SELF) pthread_exit(NULL);
@@ -219,7 +219,7 @@ static void unblock_workers(thread_pool_t *pool, int count) {
 /* Waits for a change of the workers, for a short time. The caller has the lock. */
 static void wait_for_change(thread_pool_t *pool) {
     struct timespec until = time_after(CLOCK_MONOTONIC, ASK_AGAIN);
-    pthread_cond_clockwait(&pool->changed, &pool->lock, CLOCK_MONOTONIC, &until);
+    neutrino_pthread_cond_clockwait(&pool->changed, &pool->lock, CLOCK_MONOTONIC, &until);
 }
 
 static bool is_worker(const thread_pool_t *pool) {
@@ -231,14 +231,14 @@ static bool is_worker(const thread_pool_t *pool) {
 
 int thread_pool_destroy(thread_pool_t *pool) {
     if (!pool) return fail(EINVAL);
-    pthread_mutex_lock(&pool->lock);
+    ordered_mutex_lock(&pool->lock);
     int error = is_worker(pool) ? EDEADLK : pool->created && !pool->attr.unblock_func ? EINVAL : 0;
     pool->ends = !error;
     while (!error && pool->created) {
         unblock_workers(pool, pool->created);
         wait_for_change(pool);
     }
-    pthread_mutex_unlock(&pool->lock);
+    neutrino_pthread_mutex_unlock(&pool->lock);
     if (error) return fail(error);
     pthread_mutex_destroy(&pool->lock);
     pthread_cond_destroy(&pool->changed);
@@ -266,7 +266,7 @@ static void end_surplus(thread_pool_t *pool) {
 
 /* Gives a pool new limits, and waits until it has lower to upper workers if waits and it has started. */
 static int control(thread_pool_t *pool, const thread_pool_attr_t *new, int lower, int upper, bool waits) {
-    pthread_mutex_lock(&pool->lock);
+    ordered_mutex_lock(&pool->lock);
     bool is_set = set_limits(pool, new);
     if (is_set) end_surplus(pool);
     waits &= is_set && pool->has_started;
@@ -274,15 +274,15 @@ static int control(thread_pool_t *pool, const thread_pool_attr_t *new, int lower
         wait_for_change(pool);
         end_surplus(pool);
     }
-    pthread_mutex_unlock(&pool->lock);
+    neutrino_pthread_mutex_unlock(&pool->lock);
     return is_set ? EOK : fail(EINVAL);
 }
 
 int thread_pool_limits(thread_pool_t *pool, int lowater, int hiwater, int maximum, int increment, unsigned flags) {
     if (!pool || flags & ~THREAD_POOL_CONTROL_NONBLOCK) return fail(EINVAL);
-    pthread_mutex_lock(&pool->lock);
+    ordered_mutex_lock(&pool->lock);
     thread_pool_attr_t new = pool->attr;
-    pthread_mutex_unlock(&pool->lock);
+    neutrino_pthread_mutex_unlock(&pool->lock);
     if (lowater >= 0) new.lo_water = (unsigned short)lowater;
     if (hiwater >= 0) new.hi_water = (unsigned short)hiwater;
     if (maximum >= 0) new.maximum = (unsigned short)maximum;
@@ -293,9 +293,9 @@ int thread_pool_limits(thread_pool_t *pool, int lowater, int hiwater, int maximu
 int thread_pool_control(thread_pool_t *pool, thread_pool_attr_t *attr, uint16_t lower, uint16_t upper, unsigned flags) {
     bool waits = !(flags & THREAD_POOL_CONTROL_NONBLOCK);
     if (!pool || !attr || flags & ~(unsigned)CONTROL_FLAGS || (waits && lower > upper)) return fail(EINVAL);
-    pthread_mutex_lock(&pool->lock);
+    ordered_mutex_lock(&pool->lock);
     thread_pool_attr_t new = pool->attr;
-    pthread_mutex_unlock(&pool->lock);
+    neutrino_pthread_mutex_unlock(&pool->lock);
     if (flags & THREAD_POOL_CONTROL_LOWATER) new.lo_water = attr->lo_water;
     if (flags & THREAD_POOL_CONTROL_INCREMENT) new.increment = attr->increment;
     if (flags & THREAD_POOL_CONTROL_HIWATER) new.hi_water = attr->hi_water;

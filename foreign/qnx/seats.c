@@ -192,10 +192,14 @@ static void be_quiet(struct quiet *quiet) {
     sigfillset(&all);
     pthread_sigmask(SIG_SETMASK, &all, &quiet->signals);
     pthread_setcancelstate(PTHREAD_CANCEL_DISABLE, &quiet->cancel_state);
+    keep_turn(1);
+    look_away();
 }
 
 static void end_quiet(const struct quiet *quiet) {
     int ignored;
+    look_again();
+    keep_turn(-1);
     pthread_setcancelstate(quiet->cancel_state, &ignored);
     pthread_sigmask(SIG_SETMASK, &quiet->signals, NULL);
 }

@@ -10,8 +10,10 @@ struct order {
 };
 
 static int orders[2] = {-1, -1};
+static _Atomic int given; /* orders of an explored run that aren't obeyed yet */
 
 static int give_order(const struct order *order) {
+    if (exploring) given++;
     return write(orders[1], order, sizeof *order) == sizeof *order ? 0 : fail(EAGAIN);
 }
 
@@ -43,8 +45,28 @@ static void act(uint32_t number, uint32_t events) {
     else tell_file((int)number - WAIT_FILE, events);
 }
 
+static bool has_work(const struct task *t) {
+    (void)t;
+    return given || has_expired();
+}
+
+/* The thread in an explored run. It begins when there is work, without a choice, and its pulses are calls like others.
+ */
+_Noreturn static void serve_explored(void) {
+    begin_task(&tasks[SERVICE]);
+    if (!neutrino_join(kernel, TICKER)) seat = TICKER;
+    for (;;) {
+        for (int at = 0; at < TIMERS; at++) {
+            if (virtual_timers[at].expired) expire(&timers[at]);
+        }
+        for (; given; given--) obey();
+        await_work(has_work);
+    }
+}
+
 static void *serve(void *tells_circles) {
     struct epoll_event event;
+    if (exploring) serve_explored();
     if (neutrino_remote() || !neutrino_join(kernel, TICKER)) seat = TICKER;
     for (;;) {
         int count = epoll_wait(watched, &event, 1, tells_circles ? EVERY : -1);
@@ -76,6 +98,7 @@ static void start_service(void) {
     const char *circles = getenv("BALSAEUCHRE_CIRCLES");
     if (!open_service()) return;
     bool tells = circles && *circles && strcmp(circles, "0");
+    if (exploring) create_service(has_work);
     if (start_own(&thread, serve, tells ? orders : NULL)) return;
     pthread_detach(thread);
     if (sigaction(SIGQUIT, NULL, &quit) || quit.sa_handler != SIG_DFL) return;

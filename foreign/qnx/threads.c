@@ -6,6 +6,7 @@ struct start {
     bool has_met;  /* the thread or its creator has already called meet */
     int reserved;
     unsigned ticket;
+    struct task *task; /* of an explored run, or null */
 };
 
 static void tell_death(int tid);
@@ -15,14 +16,17 @@ static void tell_death(int tid);
 static void end_thread(void *argument) {
     (void)argument;
     int tid = seat;
+    begin_end();
     hold();
     if (!tid && has_reserved()) tid = reserved;
     release();
     if (seat) neutrino_leave();
     seat = reserved = 0;
-    if (!tid) return;
-    tell_death(tid);
-    give_back(tid);
+    if (tid) {
+        tell_death(tid);
+        give_back(tid);
+    }
+    end_task();
 }
 
 /* A thread and its creator both call this. The first caller writes the thread's id. So the thread finds the
@@ -42,6 +46,7 @@ static void meet(struct start *start, pthread_t thread) {
 static void *run_thread(void *own) {
     struct start *start = own;
     void *(*function)(void *argument) = start->function, *argument = start->argument;
+    begin_task(start->task);
     reserved = start->reserved;
     ticket = start->ticket;
     meet(start, pthread_self());
@@ -117,13 +122,14 @@ int neutrino_pthread_create(pthread_t *thread, const pthread_attr_t *attributes,
         free(start);
         return EAGAIN;
     }
-    *start = (struct start){.function = function, .argument = argument, .id = thread};
+    *start = (struct start){.function = function, .argument = argument, .id = thread, .task = begin_creation()};
     reserve_both(start, attributes);
     if (attributes) {
         hosts = *attributes; /* only for this call */
         pthread_attr_setinheritsched(&hosts, PTHREAD_INHERIT_SCHED);
     }
     int error = pthread_create(&created, attributes ? &hosts : NULL, run_thread, start);
+    end_creation(start->task, error, created, start->reserved);
     if (error) give_up(start);
     else meet(start, created);
     return error;
@@ -160,11 +166,13 @@ int SchedSet(pid_t pid, int tid, int policy, const struct sched_param *param) {
     if (enter()) return -1;
     if (!param) return fail(EFAULT);
     if (pid && pid != program) return fail(ESRCH);
+    step_if_explored(DO_TABLES);
     return set_priority(named_tid(tid), policy, param->sched_priority);
 }
 
 int SchedGet(pid_t pid, int tid, struct sched_param *param) {
     if (enter()) return -1;
+    step_if_explored(DO_TABLES);
     tid = pid && pid != program ? 0 : named_tid(tid);
     struct seat s = seat_of(tid);
     if (s.use == FREE) return fail(ESRCH);
@@ -192,7 +200,7 @@ int ClockId(pid_t pid, int tid) {
     return error ? fail(error) : id;
 }
 
-int SchedYield(void) { return sched_yield(); }
+int SchedYield(void) { return neutrino_sched_yield(); }
 
 int getprio(pid_t pid) {
     struct sched_param param;
@@ -248,7 +256,9 @@ int neutrino_pthread_getschedparam(pthread_t thread, int *policy, struct sched_p
 
 /* Cancels a thread, and ends the call in which it is blocked. The thread ends when that call returns. */
 int neutrino_pthread_cancel(pthread_t thread) {
+    step_if_explored(DO_CANCEL);
     int before = errno, error = pthread_cancel(thread);
+    if (!error) cancel_task(thread);
     /* Under the lock no seat gets another thread. If a thread takes its seat later, it finds the cancellation
      * first. */
     hold();
@@ -264,6 +274,7 @@ int neutrino_pthread_setname_np(pthread_t thread, const char *name) {
     char cut[THREAD_NAME];
     if (!thread) thread = pthread_self();
     snprintf(cut, sizeof cut, "%s", name);
+    show_name(thread, cut);
     int error = pthread_setname_np(thread, cut), tid = error ? 0 : tid_of(thread);
     if (seat_of(tid).use == TAKEN) record_seat(tid, thread);
     return error;

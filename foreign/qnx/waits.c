@@ -2,7 +2,6 @@
  *
  * The layer has the timeouts of messages. A timeout is of one call only, so a call of a message also uses up
  * the timeouts of this file (enter), and a wait of this file uses up the timeout of messages. */
-#include <semaphore.h>
 
 /* The limit of a wait: a timeout, or none. */
 struct limit {
@@ -13,7 +12,7 @@ struct limit {
 /* Returns the time by a clock after some nanoseconds. */
 static struct timespec time_after(clockid_t clock, uint64_t nanoseconds) {
     struct timespec time;
-    clock_gettime(clock, &time);
+    read_clock(clock, &time);
     uint64_t left = (uint64_t)INT64_MAX - timespec2nsec(&time);
     nsec2timespec(&time, timespec2nsec(&time) + (nanoseconds < left ? nanoseconds : left));
     return time;
@@ -47,35 +46,35 @@ static void drop_timeout(void) { take_limit(0); }
 /* ---- sleeps */
 
 /* Sleeps until a time of a clock. Returns 0 or an error. */
-static int sleep_to(clockid_t clock, const struct timespec *until) {
-    return clock_nanosleep(clock, TIMER_ABSTIME, until, NULL);
+static int sleep_by_clock(clockid_t clock, const struct timespec *until) {
+    return ordered_clock_nanosleep(clock, TIMER_ABSTIME, until, NULL);
 }
 
 /* Writes the time that is left of a sleep until a time. */
 static void write_left(clockid_t clock, const struct timespec *until, struct timespec *left) {
     struct timespec now;
-    clock_gettime(clock, &now);
+    read_clock(clock, &now);
     uint64_t end = timespec2nsec(until), time = timespec2nsec(&now);
     nsec2timespec(left, end > time ? end - time : 0);
 }
 
 int neutrino_clock_nanosleep(clockid_t clock, int flags, const struct timespec *time, struct timespec *left) {
     uint64_t nanoseconds = 0;
-    if (!take_timeout(_NTO_TIMEOUT_NANOSLEEP, &nanoseconds)) return clock_nanosleep(clock, flags, time, left);
+    if (!take_timeout(_NTO_TIMEOUT_NANOSLEEP, &nanoseconds)) return ordered_clock_nanosleep(clock, flags, time, left);
     bool is_wrong = !time || time->tv_sec < 0 || time->tv_nsec < 0 || time->tv_nsec >= 1000000000;
-    if (is_wrong) return clock_nanosleep(clock, flags, time, left);
+    if (is_wrong) return ordered_clock_nanosleep(clock, flags, time, left);
     bool is_absolute = flags & TIMER_ABSTIME;
     struct timespec until = is_absolute ? *time : time_after(clock, timespec2nsec(time));
     struct timespec limit = time_after(clock, nanoseconds);
     bool times_out = is_before(&limit, &until);
-    int error = sleep_to(clock, times_out ? &limit : &until);
+    int error = sleep_by_clock(clock, times_out ? &limit : &until);
     if (!error && times_out) error = ETIMEDOUT;
     if (error && left && !is_absolute) write_left(clock, &until, left);
     return error;
 }
 
 int neutrino_nanosleep(const struct timespec *time, struct timespec *left) {
-    if (!next_wait.states) return nanosleep(time, left);
+    if (!next_wait.states) return ordered_nanosleep(time, left);
     int error = neutrino_clock_nanosleep(CLOCK_MONOTONIC, 0, time, left);
     return error ? fail(error) : 0;
 }
@@ -99,7 +98,7 @@ unsigned delay(unsigned milliseconds) {
 /* ---- semaphores, mutexes, condition variables and joins */
 
 static int wait_semaphore(sem_t *semaphore, const struct limit *limit) {
-    return limit->is_set ? sem_timedwait(semaphore, &limit->until) : sem_wait(semaphore);
+    return limit->is_set ? ordered_sem_timedwait(semaphore, &limit->until) : ordered_sem_wait(semaphore);
 }
 
 int neutrino_sem_wait(sem_t *semaphore) {
@@ -109,32 +108,32 @@ int neutrino_sem_wait(sem_t *semaphore) {
 
 int neutrino_sem_timedwait(sem_t *semaphore, const struct timespec *until) {
     drop_timeout();
-    return sem_timedwait(semaphore, until);
+    return ordered_sem_timedwait(semaphore, until);
 }
 
 int neutrino_pthread_mutex_lock(pthread_mutex_t *mutex) {
     struct limit limit = take_limit(_NTO_TIMEOUT_MUTEX);
-    return limit.is_set ? pthread_mutex_timedlock(mutex, &limit.until) : pthread_mutex_lock(mutex);
+    return limit.is_set ? ordered_mutex_timedlock(mutex, &limit.until) : ordered_mutex_lock(mutex);
 }
 
 int neutrino_pthread_mutex_timedlock(pthread_mutex_t *mutex, const struct timespec *until) {
     drop_timeout();
-    return pthread_mutex_timedlock(mutex, until);
+    return ordered_mutex_timedlock(mutex, until);
 }
 
 int neutrino_pthread_cond_wait(pthread_cond_t *condition, pthread_mutex_t *mutex) {
     uint64_t nanoseconds = 0;
-    if (!take_timeout(_NTO_TIMEOUT_CONDVAR, &nanoseconds)) return pthread_cond_wait(condition, mutex);
+    if (!take_timeout(_NTO_TIMEOUT_CONDVAR, &nanoseconds)) return ordered_cond_wait(condition, mutex);
     struct timespec until = time_after(CLOCK_MONOTONIC, nanoseconds);
-    return pthread_cond_clockwait(condition, mutex, CLOCK_MONOTONIC, &until);
+    return neutrino_pthread_cond_clockwait(condition, mutex, CLOCK_MONOTONIC, &until);
 }
 
 int neutrino_pthread_cond_timedwait(pthread_cond_t *condition, pthread_mutex_t *mutex, const struct timespec *until) {
     drop_timeout();
-    return pthread_cond_timedwait(condition, mutex, until);
+    return ordered_cond_timedwait(condition, mutex, until);
 }
 
 int neutrino_pthread_join(pthread_t thread, void **value) {
     struct limit limit = take_limit(_NTO_TIMEOUT_JOIN);
-    return limit.is_set ? pthread_timedjoin_np(thread, value, &limit.until) : pthread_join(thread, value);
+    return ordered_join(thread, value, limit.is_set ? &limit.until : NULL);
 }

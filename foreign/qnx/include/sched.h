@@ -9,6 +9,7 @@
 #pragma redefine_extname sched_getscheduler neutrino_sched_getscheduler
 #pragma redefine_extname sched_get_priority_min neutrino_sched_get_priority_min
 #pragma redefine_extname sched_get_priority_max neutrino_sched_get_priority_max
+#pragma redefine_extname sched_yield neutrino_sched_yield
 #endif
 #ifndef _BITS_TYPES_STRUCT_SCHED_PARAM
 /* The host's struct has only the first member, and is only passed by address. */

@@ -10,8 +10,10 @@
 #pragma redefine_extname timer_gettime neutrino_timer_gettime
 #pragma redefine_extname timer_getoverrun neutrino_timer_getoverrun
 #pragma redefine_extname timer_delete TimerDestroy
-#pragma redefine_extname nanosleep neutrino_nanosleep
+#pragma redefine_extname clock_gettime neutrino_clock_gettime
 #pragma redefine_extname clock_nanosleep neutrino_clock_nanosleep
+#pragma redefine_extname nanosleep neutrino_nanosleep
+#pragma redefine_extname time neutrino_time
 #endif
 #include_next <time.h>
 #if defined CLOCK_MONOTONIC && !defined BALSAEUCHRE_QNX_TIME_H

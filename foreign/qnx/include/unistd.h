@@ -5,6 +5,7 @@
 #pragma redefine_extname gettid neutrino_gettid
 #pragma redefine_extname sleep neutrino_sleep
 #pragma redefine_extname usleep neutrino_usleep
+#pragma redefine_extname _exit neutrino__exit
 #endif
 #include_next <unistd.h>
 #ifndef BALSAEUCHRE_QNX_UNISTD_H
