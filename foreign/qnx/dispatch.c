@@ -31,10 +31,9 @@ struct _dispatch {
 /* A context. The part for the program is the last, since its parts follow it. */
 struct context {
     pthread_mutex_t lock;
-    int tid;         /* the thread that receives now, or 0 */
-    bool unblocks;   /* a dispatch_unblock wasn't noticed yet */
-    bool has_event;  /* it has received something that dispatch_handler hasn't handled yet */
-    size_t received; /* the bytes of the message */
+    int tid;        /* the thread that receives now, or 0 */
+    bool unblocks;  /* a dispatch_unblock wasn't noticed yet */
+    bool has_event; /* it has received something that dispatch_handler hasn't handled yet */
     dispatch_context_t public;
 };
 
