@@ -93,8 +93,9 @@ static int choose(uint64_t enabled) {
 static struct task *resuming(uint64_t enabled) {
     uint64_t found = 0;
     for (int at = 0; at < TASKS; at++) {
-        bool goes_on = enabled >> at & 1 && tasks[at].is_resuming && !tasks[at].is_late;
-        if (goes_on) found |= 1ull << at;
+        const struct task *t = &tasks[at];
+        bool has_late_end = t->is_late && !(t->can_run && t->can_run(t));
+        if (enabled >> at & 1 && t->is_resuming && !has_late_end) found |= 1ull << at;
     }
     if (!found || run->every_step) return NULL;
     return found >> index_of(last) & 1 ? last : &tasks[__builtin_ctzll(found)];
