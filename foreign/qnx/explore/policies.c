@@ -21,7 +21,7 @@ static int least_advanced(uint64_t enabled) {
     return found;
 }
 
-/* The policy CONTINUE: the same task goes on. If it waits or yields, the task with the fewest operations does. The
+/* The policy CONTINUE: the same task runs next. If it waits or yields, the task with the fewest operations does. The
  * choice depends only on the state and on the last task, since it is the usual choice in each run that comes to the
  * state. */
 static int continue_with(uint64_t enabled) {
