@@ -98,7 +98,7 @@ struct set {
 struct search {
     const struct options *options;
     struct program *programs; /* of the option's number */
-    double begun; /* in seconds */
+    double begun;             /* in seconds */
     long runs;
     bool early;     /* the second phase, in which time may go on while a thread can run */
     bool has_times; /* a run had a time that could have come early, so there is a second phase */

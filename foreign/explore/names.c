@@ -61,7 +61,7 @@ static const char *operation_name(unsigned operation) {
     return name ? name : "operation";
 }
 
-/* Writes a thread's name, as a record has it: main, its own name, or t and its tid. */
+/* Writes a thread's name, as in a record: main, its own name, or t and its tid. */
 static const char *task_name(const struct explore_run *run, unsigned task, char words[WORDS]) {
     const struct explore_task *t = task < TASKS ? &run->tasks[task] : NULL;
     if (!t) snprintf(words, WORDS, "time");
@@ -86,7 +86,7 @@ static const char *event_words(const struct explore_run *run, const struct explo
     return words;
 }
 
-/* Writes for what a blocked thread waits. */
+/* Writes the reason for which a thread is blocked. */
 static const char *wait_words(const struct explore_run *run, const struct explore_task *t, char words[WORDS]) {
     char name[WORDS];
     const char *other = t->other < TASKS ? task_name(run, t->other, name) : NULL;

@@ -1,4 +1,4 @@
-/* How a finding is told. Tested, not proved. */
+/* The report of a finding. Tested, not proved. */
 enum { OUTPUT_LINES = 40 };
 
 /* A text that grows. */

@@ -1,4 +1,4 @@
-/* What all searches share: their limits, and what is kept of a run. Tested, not proved. */
+/* The common parts of all searches: their limits, and what is kept of a run. Tested, not proved. */
 static void show_progress(const struct search *s);
 
 static bool is_known(const struct search *s, struct outcome outcome) {
@@ -67,7 +67,7 @@ static uint64_t *copy_states(const struct explore_run *run) {
     return copies;
 }
 
-/* Whether a run was ended in its middle: what follows isn't known. */
+/* Whether a run was ended in its middle, so that its other operations aren't known. */
 static bool is_cut(enum failure failure) { return failure >= FAILED_ENDLESS || failure == FAILED_ERROR; }
 
 /* Keeps the last run of a program as a finding, if it failed in a new way. */

@@ -54,7 +54,9 @@ static bool has_work(const struct task *t) {
  */
 _Noreturn static void serve_explored(void) {
     begin_task(&tasks[SERVICE]);
+    look_away();
     if (!neutrino_join(kernel, TICKER)) seat = TICKER;
+    look_again();
     for (;;) {
         for (int at = 0; at < TIMERS; at++) {
             if (virtual_timers[at].expired) expire(&timers[at]);

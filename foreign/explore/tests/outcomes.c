@@ -1,4 +1,4 @@
-/* outcomes NAME: programs that end in each way that balsaeuchre-explore tells, and one that passes. */
+/* outcomes NAME: a program for each report of balsaeuchre-explore, and a program that passes. */
 #include <errno.h>
 #include <pthread.h>
 #include <signal.h>

@@ -9,7 +9,7 @@ static void need_task(void) {
 
 static bool is_receive(uint32_t kind) { return kind == BALSAEUCHRE_RECEIVE || kind == BALSAEUCHRE_RECEIVE_PULSE; }
 
-/* What a call is about. */
+/* Returns the objects of a call. */
 static struct about about_call(int chid, int client) {
     return (struct about){.chid = chid, .task = client ? task_of_tid(client) : TASKS};
 }
@@ -65,7 +65,7 @@ static int wait_for_end(int tid, const void *word, uint64_t until) {
     return true;
 }
 
-/* The thread of the completed call depends on all that the caller has done. */
+/* The thread of the completed call depends on all operations of the caller so far. */
 static void end_of_call(int tid) {
     unsigned at = task_of_tid(tid);
     if (at == TASKS || &tasks[at] == me || !me) return;

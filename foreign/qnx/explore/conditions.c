@@ -51,7 +51,7 @@ static struct task *first_waiting(const void *awaited) {
     return first;
 }
 
-/* Wakes a task, which now depends on all that the caller has done. */
+/* Wakes a task, which now depends on all operations of the caller so far. */
 static void wake_task(struct task *t) {
     t->is_woken = true;
     t->past = mix_in(t->past, me->past);

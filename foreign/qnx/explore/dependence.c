@@ -101,7 +101,7 @@ static const struct row rows[OPERATIONS] = {
     [DO_EXIT] = {{CHANGES(EVERYTHING)}},
 };
 
-/* What an operation is about: the numbers of its objects. */
+/* The numbers of an operation's objects. */
 struct about {
     int chid;
     unsigned task; /* whose message or life it uses */

@@ -63,6 +63,7 @@ static void note_event(struct task *t, uint32_t operation, const struct access *
         }
     }
     t->past = past;
+    t->made++;
     total += past;
     append_event(t, operation, accesses);
 }

@@ -46,8 +46,8 @@ static void end_creation(struct task *t, int error, pthread_t created, int tid) 
 
 static bool tells_of_threads(void);
 
-/* The end of the calling thread, before the front gives back its seat. If channels are told of it, it uses their
- * queues. */
+/* The end of the calling thread, before the front gives back its seat. If channels get pulses
+ * about it, it uses their queues. */
 static void begin_end(void) {
     if (!explores()) return;
     state_operation(DO_END, &(struct about){.task = index_of(me)});
@@ -118,7 +118,7 @@ static void show_name(pthread_t thread, const char *name) {
 
 static unsigned holder_of(const void *lock);
 
-/* Shows for what each task waits. */
+/* Shows the reason for which each task waits. */
 static void show_waits(void) {
     for (unsigned at = 0; at < TASKS; at++) {
         const struct task *t = &tasks[at];

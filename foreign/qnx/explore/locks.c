@@ -146,7 +146,7 @@ static int lock_to_read(pthread_rwlock_t *lock, uint64_t until) {
     return error == EBUSY ? await_own(lock, until) : error;
 }
 
-/* A writer that holds the lock waits for ever, by POSIX. The host returns EDEADLK. */
+/* A writer that holds the lock never goes on, by POSIX. The host returns EDEADLK. */
 static int lock_to_write(pthread_rwlock_t *lock, uint64_t until) {
     const struct lock *held = lock_at(lock);
     if (held && held->writer == me) return EDEADLK;

@@ -11,7 +11,7 @@
 
 /* A choice is the index of a task, or CLOCK: time passes. A task is a thread of an explored run; the first is the main
  * thread, and the others follow in the order of their creation. SERVICE is the front's own thread. In a plan
- * DEFAULT_CHOICE stands for the choice that the policy CONTINUE makes. */
+ * DEFAULT_CHOICE means the choice that the policy CONTINUE makes. */
 enum { TASKS = 63, SERVICE = TASKS - 1, CLOCK = TASKS, DEFAULT_CHOICE = 255 };
 enum { CHOICES = 1 << 16, EVENTS = 1 << 16, ACCESSES = 6, STATES = 1 << 21, FRAMES = 16, TASK_NAME = 16 };
 
@@ -71,7 +71,7 @@ enum operation {
 };
 
 struct explore_choice {
-    uint64_t enabled; /* a bit for each task that could run, and the bit CLOCK if time could go on */
+    uint64_t enabled; /* a bit for each task that could run, and the bit CLOCK if time could pass */
     uint64_t state;   /* equal for runs that so far differ only in the order of independent operations */
     uint8_t last, chosen, usual, zero;
     uint32_t events; /* the events before it */
@@ -79,7 +79,7 @@ struct explore_choice {
 
 /* An operation that a task has made. */
 struct explore_event {
-    uint8_t task, operation; /* the task CLOCK: time has gone on */
+    uint8_t task, operation; /* the task CLOCK: time has passed */
     uint8_t other;           /* the task that created, woke or received: see explore_task; TASKS: none */
     uint8_t is_late;         /* its time had come */
     int32_t chid;
@@ -104,7 +104,7 @@ struct explore_task {
 struct explore_run {
     /* written by balsaeuchre-explore */
     uint32_t planned, policy, most_events;
-    uint32_t early;      /* time may go on while a thread can run */
+    uint32_t early;      /* time may pass while a thread can run */
     uint32_t every_step; /* a thread whose call has ended may wait before its next operation */
     uint32_t tells_failures;
     uint32_t depth, length; /* of PCT: its depth, and the length that it expects */

@@ -11,14 +11,25 @@ static int nth(uint64_t set, unsigned n) {
     return __builtin_ctzll(set);
 }
 
-/* The policy CONTINUE: the same task goes on, unless it waits or yields. Then it is the next one's turn, in a circle.
- * The choice depends only on the tasks that can run and on the last one, so it is the same wherever the state is. */
+/* Returns the task that has made the fewest operations. */
+static int least_advanced(uint64_t enabled) {
+    int found = -1;
+    for (; enabled; enabled &= enabled - 1) {
+        int at = __builtin_ctzll(enabled);
+        if (found == -1 || tasks[at].made < tasks[found].made) found = at;
+    }
+    return found;
+}
+
+/* The policy CONTINUE: the same task runs next. If it waits or yields, the task with the fewest operations does. The
+ * choice depends only on the state and on the last task, since it is the usual choice in each run that comes to the
+ * state. */
 static int continue_with(uint64_t enabled) {
     unsigned own = index_of(last);
-    uint64_t others = enabled & ~(1ull << own), later = others & ~0ull << own;
+    uint64_t others = enabled & ~(1ull << own);
     bool yields = last->shown->operation == DO_YIELD && others;
     if (enabled >> own & 1 && !yields) return (int)own;
-    return __builtin_ctzll(later ? later : others);
+    return least_advanced(others ? others : enabled);
 }
 
 static int by_random(uint64_t enabled) {

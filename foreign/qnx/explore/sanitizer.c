@@ -1,7 +1,7 @@
-/* What ThreadSanitizer learns of an explored run, if the program has it. Tested, not proved.
+/* The order of an explored run for ThreadSanitizer, if the program has it. Tested, not proved.
  *
- * Operations before a message, a pulse or a reply come before its receipt. The lock of the kernel and the turns are no
- * order, so ThreadSanitizer doesn't look at them. */
+ * Operations before a message, a pulse or a reply come before its receipt. ThreadSanitizer doesn't look at the
+ * lock of the kernel and at the turns, which would hide races. */
 __attribute__((weak)) void __tsan_acquire(void *at);
 __attribute__((weak)) void __tsan_release(void *at);
 __attribute__((weak)) void AnnotateIgnoreReadsBegin(const char *file, int line);
@@ -11,7 +11,7 @@ __attribute__((weak)) void AnnotateIgnoreWritesEnd(const char *file, int line);
 __attribute__((weak)) void AnnotateIgnoreSyncBegin(const char *file, int line);
 __attribute__((weak)) void AnnotateIgnoreSyncEnd(const char *file, int line);
 
-/* Their addresses stand for channels, by the last bits of the chid, and for tasks. */
+/* Their addresses are names of channels, by the last bits of the chid, and for tasks. */
 static char order_of_channel[1024], order_of_task[TASKS];
 
 static bool has_tsan(void) { return __tsan_acquire && __tsan_release && AnnotateIgnoreSyncBegin; }

@@ -23,6 +23,7 @@ struct task {
     int atomic;               /* above 0: it keeps its turn */
     uint64_t past, last_turn; /* a hash of the operations that came before its next one; when it had the turn */
     uint32_t priority;        /* of the policy PCT */
+    uint32_t made;            /* operations */
     unsigned clock_reads;     /* since its last operation */
     pthread_t thread;
 };

@@ -1,8 +1,8 @@
 /* Turns: which task runs next. Tested, not proved.
  *
- * Before an operation a task states the operation, and gives its turn. The task with the turn chooses the next task
- * among those that can run, and wakes it. Time stands still while a task can run, unless CLOCK is chosen; it
- * then goes on to the next time at which a timer, a timeout or a sleep ends. */
+ * Before an operation a task states the operation, and gives its turn. The task with the turn chooses the next task of
+ * the tasks that can run, and wakes it. Time doesn't pass while a task can run, unless CLOCK is chosen. Then it is the
+ * next time at which a timer, a timeout or a sleep ends. */
 static const uint64_t CLOCK_BIT = 1ull << CLOCK;
 
 static uint64_t next_expiry(void);
@@ -49,7 +49,7 @@ static uint64_t next_time(void) {
     return next;
 }
 
-/* If no task could run, all that tasks do from now on comes after this event. */
+/* If no task could run, all later operations of tasks come after this event. */
 static void advance_to(uint64_t time, bool could_run) {
     static struct task host;
     struct access accesses[ACCESSES];
@@ -93,8 +93,9 @@ static int choose(uint64_t enabled) {
 static struct task *resuming(uint64_t enabled) {
     uint64_t found = 0;
     for (int at = 0; at < TASKS; at++) {
-        bool goes_on = enabled >> at & 1 && tasks[at].is_resuming && !tasks[at].is_late;
-        if (goes_on) found |= 1ull << at;
+        const struct task *t = &tasks[at];
+        bool has_late_end = t->is_late && !(t->can_run && t->can_run(t));
+        if (enabled >> at & 1 && t->is_resuming && !has_late_end) found |= 1ull << at;
     }
     if (!found || run->every_step) return NULL;
     return found >> index_of(last) & 1 ? last : &tasks[__builtin_ctzll(found)];
@@ -118,7 +119,7 @@ static struct task *pick(void) {
     }
 }
 
-/* Forgets for what the caller has waited, now that it has its turn. Returns whether its time has come. */
+/* Ends the caller's wait, now that it has its turn. Returns whether its time has come. */
 static bool begin_turn(void) {
     me->can_run = NULL;
     me->takes_cancel = false;

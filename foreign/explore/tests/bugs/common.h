@@ -1,4 +1,4 @@
-/* What the programs with planted bugs share. */
+/* The common parts of the programs with planted bugs. */
 #include <assert.h>
 #include <errno.h>
 #include <pthread.h>

@@ -1,4 +1,4 @@
-/* A thread that asks again and again for what never comes. */
+/* A thread that asks again and again for an answer that never comes. */
 #include "common.h"
 
 int main(void) {

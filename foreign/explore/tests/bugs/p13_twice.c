@@ -1,5 +1,5 @@
 /* A server answers a request when its work is done, and another thread answers it with an error when it is asked to
- * stop. Both may answer the same request. With -DRIGHT the one who takes the rcvid answers. */
+ * stop. Both may answer the same request. With -DRIGHT only the thread that takes the rcvid answers. */
 #include "common.h"
 
 static int chid, held;

@@ -1,5 +1,5 @@
 /* Shared memory without a lock: two servers on channels of their own count in one variable. No order of calls shows it;
- * a third variable is passed by messages alone, and is no race. */
+ * a third variable is passed only by messages, so it has no race. */
 #include "common.h"
 
 static int chids[2], counted;
