@@ -31,48 +31,43 @@ static void add_output(struct text *text, int file) {
     free(all);
 }
 
+static const char *const failure_words[] = {
+    [PASSED] = "passes",
+    [FAILED_DEADLOCK] = "deadlock: no thread can run, and no time comes",
+    [FAILED_RACE] = "data race, which ThreadSanitizer reports",
+    [FAILED_OUTPUT] = "another output than expected",
+    [FAILED_ENDLESS] = "no end: the run has as many calls as --calls allows",
+    [FAILED_THREAD] = "a thread makes a call that the headers' pthread_create didn't create",
+    [FAILED_FORK] = "the program forks: several programs can't be explored",
+    [FAILED_DAEMON] = "the program uses a daemon's kernel: several programs can't be explored",
+    [FAILED_ROOM] =
+        "the program holds too many locks or barriers at a time: 1,024 locks and 256 barriers can be explored",
+    [FAILED_DIFFERS] = "not deterministic",
+};
+
 /* Writes what failed, in a line. */
 static const char *outcome_words(const struct explore_run *run, struct outcome outcome, char words[WORDS]) {
     char name[WORDS];
+    const char *thread = task_name(run, (unsigned)outcome.detail, name);
     switch (outcome.failure) {
-    case PASSED:
-        return "passes";
-    case FAILED_DEADLOCK:
-        return "deadlock: no thread can run, and no time comes";
     case FAILED_CRASH:
         snprintf(words, WORDS, "crash by %s", strsignal(outcome.detail));
         return words;
     case FAILED_STATUS:
         snprintf(words, WORDS, "exit status %d", outcome.detail);
         return words;
-    case FAILED_RACE:
-        return "data race, which ThreadSanitizer reports";
     case FAILED_ERROR:
         snprintf(words, WORDS, "a call fails with %s", outcome.detail == ESRCH ? "ESRCH" : "EBADF");
         return words;
-    case FAILED_OUTPUT:
-        return "another output than expected";
-    case FAILED_ENDLESS:
-        return "no end: the run has as many calls as --calls allows";
     case FAILED_SPINS:
-        snprintf(words, WORDS, "%s computes and makes no call", task_name(run, (unsigned)outcome.detail, name));
+        snprintf(words, WORDS, "%.40s computes and makes no call", thread);
         return words;
     case FAILED_STOPS:
-        snprintf(words, WORDS, "%s makes no call: it waits for the host",
-                 task_name(run, (unsigned)outcome.detail, name));
+        snprintf(words, WORDS, "%.40s makes no call: it waits for the host", thread);
         return words;
-    case FAILED_THREAD:
-        return "a thread makes a call that the headers' pthread_create didn't create";
-    case FAILED_FORK:
-        return "the program forks: several programs can't be explored";
-    case FAILED_DAEMON:
-        return "the program uses a daemon's kernel: several programs can't be explored";
-    case FAILED_ROOM:
-        return "the program holds too many locks or barriers at a time: 1,024 locks and 256 barriers can be explored";
-    case FAILED_DIFFERS:
-        break;
+    default:
+        return failure_words[outcome.failure];
     }
-    return "not deterministic";
 }
 
 static void add_waits(struct text *text, const struct explore_run *run) {

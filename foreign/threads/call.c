@@ -42,8 +42,9 @@ static struct use use_of(const neutrino *k, const struct call *c) {
     return use;
 }
 
-/* Waits until the scheduler lets the thread make its call. */
-static void await_turn(const neutrino *k, const struct call *c) {
+/* Waits until the scheduler lets the thread make its call. It is out of line, so that other calls don't save registers
+ * for it. */
+__attribute__((noinline, cold)) static void await_turn(const neutrino *k, const struct call *c) {
     struct use use = use_of(k, c);
     k->scheduler->turn(c->request.kind, use.chid, use.client);
     use = use_of(k, c);

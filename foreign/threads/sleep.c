@@ -77,7 +77,7 @@ static bool look(struct place *p) {
 enum woken { HAS_ENDED, TIMED_OUT, WAS_INTERRUPTED };
 
 /* Waits like sleep_until, for the scheduler. */
-static enum woken wait_for_turn(struct place *p, uint64_t until) {
+__attribute__((noinline, cold)) static enum woken wait_for_turn(struct place *p, uint64_t until) {
     for (;;) {
         bool is_late = kernel->scheduler->wait(p->tid, &p->word, until);
         if (is_ended(p)) return HAS_ENDED;

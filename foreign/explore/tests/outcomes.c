@@ -47,7 +47,8 @@ static void locks(void) {
     pthread_join(thread, NULL);
 }
 
-static void crash(void) { raise(SIGSEGV); }
+static int *volatile nowhere;
+static void crash(void) { *nowhere = 1; }
 static void status(void) { exit(3); }
 static void badf(void) { MsgSend(coid + 1, "x", 1, NULL, 0); }
 

@@ -3,11 +3,12 @@
 #include "common.h"
 
 enum { CLIENTS = 2 };
-static int chid, worker_chid, present;
+static int chid, worker_chid, present, rcvids[CLIENTS];
 static pthread_mutex_t lock = PTHREAD_MUTEX_INITIALIZER;
 
 static void *work(void *arg) {
     struct _pulse pulse;
+    pthread_setname_np(pthread_self(), "worker");
     for (int i = 0; i < CLIENTS; i++) {
         MsgReceivePulse(worker_chid, &pulse, sizeof pulse, NULL);
         int32_t answer = pulse.value.sival_int >> 16;
@@ -15,7 +16,6 @@ static void *work(void *arg) {
         int rcvid = present;
         pthread_mutex_unlock(&lock);
 #ifdef RIGHT
-        extern int rcvids[];
         rcvid = rcvids[pulse.value.sival_int & 0xffff];
 #endif
         MsgReply(rcvid, EOK, &answer, sizeof answer);
@@ -23,11 +23,10 @@ static void *work(void *arg) {
     return arg;
 }
 
-int rcvids[CLIENTS];
-
 static void *serve(void *arg) {
     int coid = attach(worker_chid);
     int32_t question;
+    pthread_setname_np(pthread_self(), "server");
     for (int i = 0; i < CLIENTS; i++) {
         int rcvid = MsgReceive(chid, &question, sizeof question, NULL);
         rcvids[i] = rcvid;
@@ -41,6 +40,7 @@ static void *serve(void *arg) {
 
 static void *ask(void *arg) {
     int32_t question = *(int *)arg, answer = 0;
+    pthread_setname_np(pthread_self(), question == 3 ? "client3" : "client5");
     assert(MsgSend(attach(chid), &question, sizeof question, &answer, sizeof answer) == EOK);
     assert(answer == 2 * question);
     return NULL;
