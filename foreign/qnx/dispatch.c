@@ -320,7 +320,7 @@ void dispatch_unblock(dispatch_context_t *ctp) {
     while (c->unblocks && c->tid) {
         neutrino_unblock(c->tid);
         neutrino_pthread_mutex_unlock(&c->lock);
-        usleep(RETRY); /* the thread may not have begun its receive yet */
+        neutrino_usleep(RETRY); /* the thread may not have begun its receive yet */
         ordered_mutex_lock(&c->lock);
     }
     neutrino_pthread_mutex_unlock(&c->lock);

@@ -122,7 +122,7 @@ static void tell_file(int at, uint32_t events) {
     if (dpp) files[at].ready |= flags_that_hold(events, files[at].flags);
     release();
     if (!dpp || !send_pulse(coid, USUAL, FILE_READY, (union sigval){.sival_int = named}) || errno != EAGAIN) return;
-    usleep(1000);
+    neutrino_usleep(1000);
     hold();
     if (files[at].dpp == dpp) watch_file(at, EPOLL_CTL_MOD);
     release();

@@ -149,7 +149,7 @@ static void deliver_to_thread(const struct attachment *a) {
     if (is_there && SIGEV_GET_TYPE(&a->event) == SIGEV_SIGNAL_THREAD) queue_signal(seats[a->tid].host, &a->event);
     else if (is_there && !a->waiting->is_ready) {
         a->waiting->is_ready = true;
-        sem_post(&a->waiting->posted);
+        neutrino_sem_post(&a->waiting->posted);
     }
     release();
 }

@@ -45,9 +45,18 @@ static void act(uint32_t number, uint32_t events) {
     else tell_file((int)number - WAIT_FILE, events);
 }
 
+/* The next event of an explored run: an interrupt's line is raised, or a file of select_attach is ready. */
+static struct epoll_event next_event;
+static bool has_next_event;
+
+static bool has_event(void) {
+    if (!has_next_event) has_next_event = epoll_wait(watched, &next_event, 1, 0) == 1;
+    return has_next_event;
+}
+
 static bool has_work(const struct task *t) {
     (void)t;
-    return given || has_expired();
+    return given || has_expired() || has_event();
 }
 
 /* The thread in an explored run. It begins when there is work, without a choice, and its pulses are calls like others.
@@ -62,6 +71,10 @@ _Noreturn static void serve_explored(void) {
             if (virtual_timers[at].expired) expire(&timers[at]);
         }
         for (; given; given--) obey();
+        while (has_event()) {
+            has_next_event = false;
+            act(next_event.data.u32, next_event.events);
+        }
         await_work(has_work);
     }
 }
