@@ -92,10 +92,10 @@ static void *client(void *arg)
     printf("limits: %d\n", thread_pool_limits(pool, 4, 5, -1, -1, THREAD_POOL_CONTROL_NONBLOCK));
     until_threads(4);
     memset(&more, 0, sizeof more);
-    more.hi_water = 6;
+    more.hi_water = 8;
     more.lo_water = 6;
     printf("control: %d\n",
-           thread_pool_control(pool, &more, 6, 6, THREAD_POOL_CONTROL_LOWATER | THREAD_POOL_CONTROL_HIWATER));
+           thread_pool_control(pool, &more, 6, 8, THREAD_POOL_CONTROL_LOWATER | THREAD_POOL_CONTROL_HIWATER));
     until_threads(6);
     more.maximum = 3;
     if (thread_pool_control(pool, &more, 1, 3, THREAD_POOL_CONTROL_MAXIMUM) == -1)
