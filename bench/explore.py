@@ -12,9 +12,8 @@ and the peak of the memory in MB. PROGRAM is crates/qdemo/out/qdemo if none is g
 With --count it counts the instructions of smaller designs by callgrind, and compares them with
 bench/explore.txt. A design that takes over 5 % more is a fault, with status 1, and so is a design without a
 kept count. The counts are the same on each machine with the same C library. --program takes another program
-than the proved one. --unproved compares with the counts of an unproved program. --write keeps the counts of
-this program anew. Callgrind runs no program with a sanitizer, and tools/play makes such a program. --count
-needs valgrind and strip.
+than the proved one. --unproved compares with the counts of an unproved program, such as the program of
+tools/play. --write keeps the counts of this program anew. --count needs valgrind and strip.
 """
 
 import argparse
@@ -140,9 +139,6 @@ def counted_designs():
 
 def stripped(program, folder):
     """A copy of a program without its debug information, which valgrind may not read."""
-    with open(program, "rb") as file:
-        if b"__asan_init" in file.read():
-            sys.exit(f"{program}: it has a sanitizer, with which callgrind can't run it; give one that has none")
     copy = os.path.join(folder, "program")
     subprocess.run(["strip", "-o", copy, program], check=True)
     return copy

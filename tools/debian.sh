@@ -110,6 +110,8 @@ make_package() {
     mkdir "$to/DEBIAN"
     (cd "$to" && find usr -type f -print0 | sort -z | xargs -0 md5sum >DEBIAN/md5sums)
     control "$to" | sed '/^$/d' >"$to/DEBIAN/control"
+    (cd "$to" && find usr/lib -name '*.so.*' | sed 's|.*/||; s|[.]so[.]| |; s|$| balsaeuchre|') >"$to/DEBIAN/shlibs"
+    echo 'activate-noawait ldconfig' >"$to/DEBIAN/triggers"
     settle "$to"
     dpkg-deb --root-owner-group -Zxz --threads-max=1 --build "$to" "$folder/$file" >"$room/log"
     echo "$file"

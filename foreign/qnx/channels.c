@@ -45,6 +45,14 @@ static void tell(unsigned flag, int code, int value) {
     if (death.count) as_system(send_deaths, &death);
 }
 
+/* Whether channels are told of the ends of threads. */
+static bool tells_of_threads(void) {
+    for (int at = 0; at < CHANNELS; at++) {
+        if (told[at].chid && told[at].flags & _NTO_CHF_THREAD_DEATH) return true;
+    }
+    return false;
+}
+
 static void tell_death(int tid) {
     if (neutrino_remote()) neutrino_remote_death(tid);
     else tell(_NTO_CHF_THREAD_DEATH, _PULSE_CODE_THREADDEATH, tid);
@@ -88,6 +96,7 @@ static bool enter_told(const struct told *new) {
 /* Has a new channel get pulses about ends. If that fails, it destroys the channel. */
 static int add_told(int chid, unsigned flags) {
     struct told new = {.chid = chid, .coid = -1, .flags = flags};
+    step_if_explored(DO_TABLES);
     as_system(attach_told, &new);
     if (new.coid != -1 && enter_told(&new)) return chid;
     if (new.coid != -1) as_system(detach_told, &new);
@@ -101,6 +110,7 @@ int ChannelCreate(unsigned flags) {
     if (flags & ~(layers | DEATHS | IGNORED)) return fail(EINVAL);
     if (neutrino_remote()) return neutrino_remote_channel(flags & (layers | DEATHS));
     int chid = layer_ChannelCreate(flags & layers);
+    note_channel(chid, flags);
     return chid == -1 || !(flags & DEATHS) ? chid : add_told(chid, flags);
 }
 
@@ -189,6 +199,7 @@ int ConnectDetach(int coid) {
 
 int ConnectFlags(pid_t pid, int coid, unsigned mask, unsigned bits) {
     if (enter()) return -1;
+    step_if_explored(DO_TABLES);
     if (pid && pid != program) return fail(ESRCH);
     hold();
     struct connection *c = connection_of(coid);
@@ -196,4 +207,10 @@ int ConnectFlags(pid_t pid, int coid, unsigned mask, unsigned bits) {
     if (c) c->flags = (old & ~mask) | (bits & mask);
     release();
     return c ? (int)old : fail(EBADF);
+}
+
+/* Each channel has the places of the kernel, which are enough for a pool that the kernel can have. */
+int ChannelCreatePulsePool(unsigned flags, const struct nto_channel_config *config) {
+    bool fits = config && config->num_pulses && config->num_pulses <= 1024;
+    return fits ? ChannelCreate(flags) : fail(EINVAL);
 }

@@ -66,7 +66,8 @@ static __attribute__((noinline)) int mark_copy(void) {
     if (!has_said)
         dprintf(STDERR_FILENO,
                 "balsaeuchre: %s has the kernel of this process, and %s was linked with another copy of the "
-                "library, which can't use it: link the program with -rdynamic, so that both use one copy\n",
+                "library, which can't use it: link the program with -rdynamic, or link both with "
+                "libbalsaeuchre-qnx.so, so that both use one copy\n",
                 found.other, found.own);
     has_said = true;
     return fail(ENOTSUP);

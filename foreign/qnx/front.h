@@ -34,24 +34,48 @@ enum { SIDE = _NTO_SIDE_CHANNEL, SCOIDS = 255 };
 /* ENTRIES: each thread may just have detached a connection that is still in the table. */
 enum { CHANNELS = 64, CONNECTIONS = 1024, ENTRIES = CONNECTIONS + SEATS };
 enum { TIMERS = 256, NAMES = 64, NAME_LENGTH = 256, THREAD_NAME = 16 };
+enum { LINES = 256, FILES = 256 }; /* interrupt lines; files of select_attach */
+/* What the front's own thread waits for, as numbers of its epoll: the timers from 0 on, an order, the interrupt
+ * lines, and the files. */
+enum { WAIT_ORDER = TIMERS, WAIT_LINE, WAIT_FILE = WAIT_LINE + LINES };
 
+enum { MESSAGE_STATES = _NTO_TIMEOUT_SEND | _NTO_TIMEOUT_RECEIVE | _NTO_TIMEOUT_REPLY };
+enum {
+    HOST_STATES = _NTO_TIMEOUT_CONDVAR | _NTO_TIMEOUT_INTR | _NTO_TIMEOUT_JOIN | _NTO_TIMEOUT_MUTEX |
+                  _NTO_TIMEOUT_NANOSLEEP | _NTO_TIMEOUT_SEM
+};
+
+/* The timeout of the calling thread's next call. The layer has the part of messages. */
+static _Thread_local struct {
+    int states; /* 0: none is set */
+    uint64_t time;
+} next_wait;
+
+static bool exploring; /* the run is explored (explore/tasks.c) */
 static pthread_mutex_t front = PTHREAD_MUTEX_INITIALIZER;
 /* Above 0: the thread has the front's lock, or uses the buffers of its seat. Its own signal handlers read
  * this. */
 static _Thread_local volatile sig_atomic_t holding;
 static _Thread_local int cancel_state; /* the thread's cancellation state before it took the lock */
 
+static void look_away(void);
+static void look_again(void);
+
+/* In an explored run one thread runs at a time, and a call may give the turn while the lock is held. So there the lock
+ * isn't taken, and ThreadSanitizer doesn't look (explore/sanitizer.c). */
 static void hold(void) {
     int state;
     pthread_setcancelstate(PTHREAD_CANCEL_DISABLE, &state);
     holding++;
-    pthread_mutex_lock(&front);
+    if (exploring) look_away();
+    else pthread_mutex_lock(&front);
     cancel_state = state;
 }
 
 static void release(void) {
     int state = cancel_state, ignored;
-    pthread_mutex_unlock(&front);
+    if (exploring) look_again();
+    else pthread_mutex_unlock(&front);
     holding--;
     pthread_setcancelstate(state, &ignored);
 }

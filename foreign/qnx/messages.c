@@ -69,3 +69,11 @@ int MsgCurrent(rcvid_t rcvid) {
     struct _msg_info info;
     return MsgInfo(rcvid, &info);
 }
+
+int MsgPause(rcvid_t rcvid, unsigned cookie) {
+    struct _msg_info info;
+    (void)cookie;
+    if (MsgInfo(rcvid, &info)) return -1;
+    struct sched_param own = {.sched_priority = seats[seat].priority};
+    return layer_SchedSet(0, 0, seats[seat].policy, &own);
+}

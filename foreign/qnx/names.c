@@ -31,38 +31,63 @@ static int enter_name(const char *name, int chid) {
     return error;
 }
 
+/* Returns the channel of a handle, which then has its name. Returns -1 and sets errno on an error. */
+static int channel_for_name(dispatch_t *dpp) {
+    ordered_mutex_lock(&dpp->lock);
+    int chid = dpp->has_name ? fail(EBUSY)
+                             : channel_of(dpp, _NTO_CHF_UNBLOCK | _NTO_CHF_DISCONNECT | _NTO_CHF_COID_DISCONNECT);
+    dpp->has_name |= chid != -1;
+    neutrino_pthread_mutex_unlock(&dpp->lock);
+    return chid;
+}
+
+static void take_name_away(dispatch_t *dpp) {
+    ordered_mutex_lock(&dpp->lock);
+    dpp->has_name = false;
+    neutrino_pthread_mutex_unlock(&dpp->lock);
+}
+
+/* Gives a handle a name. Returns 0 or an errno. */
+static int attach_name(dispatch_t *dpp, const char *path, name_attach_t *attach) {
+    int chid = channel_for_name(dpp);
+    if (chid == -1) return errno == EAGAIN ? EBUSY : errno;
+    step_if_explored(DO_NAME);
+    int error = enter_name(path, chid);
+    if (error) take_name_away(dpp);
+    *attach = (name_attach_t){.dpp = dpp, .chid = chid};
+    return error;
+}
+
 name_attach_t *name_attach(dispatch_t *dpp, const char *path, unsigned flags) {
-    name_attach_t *attach = calloc(1, sizeof *attach);
-    int chid = -1, error = attach ? wrong_name(path) : ENOMEM;
+    int error = wrong_name(path);
     (void)flags;
-    if (!error && dpp) error = ENOTSUP;
-    if (!error) chid = ChannelCreate(_NTO_CHF_UNBLOCK | _NTO_CHF_DISCONNECT | _NTO_CHF_COID_DISCONNECT);
-    if (chid == -1 && !error) error = errno == EAGAIN ? EBUSY : errno;
-    if (!error) error = enter_name(path, chid);
-    if (!error) {
-        attach->chid = chid;
-        return attach;
-    }
-    if (chid != -1) ChannelDestroy(chid);
+    if (error) return null_with(error);
+    name_attach_t *attach = allocate(sizeof *attach);
+    dispatch_t *own = dpp ? NULL : dispatch_create();
+    error = attach && (dpp || own) ? attach_name(dpp ? dpp : own, path, attach) : ENOMEM;
+    if (!error) return attach;
+    if (own) dispatch_destroy(own);
     free(attach);
-    errno = error;
-    return NULL;
+    return null_with(error);
+}
+
+/* Removes the first name of a channel from the program's table. Returns whether there was one. */
+static bool remove_name(int chid) {
+    int at = 0;
+    step_if_explored(DO_NAME);
+    hold();
+    while (at < NAMES && (!*names[at].name || names[at].chid != chid)) at++;
+    if (at < NAMES) *names[at].name = 0;
+    release();
+    return at < NAMES;
 }
 
 int name_detach(name_attach_t *attach, unsigned flags) {
-    bool found = false;
-    (void)flags;
     if (!attach) return fail(EINVAL);
-    if (neutrino_remote()) found = !neutrino_remote_unname(attach->chid);
-    hold();
-    for (int at = 0; at < NAMES; at++) {
-        if (!*names[at].name || names[at].chid != attach->chid) continue;
-        *names[at].name = 0;
-        found = true;
-    }
-    release();
+    bool found = neutrino_remote() ? !neutrino_remote_unname(attach->chid) : remove_name(attach->chid);
     if (!found) return fail(EINVAL);
-    ChannelDestroy(attach->chid);
+    take_name_away(attach->dpp);
+    if (!(flags & NAME_FLAG_DETACH_SAVEDPP)) dispatch_destroy(attach->dpp);
     free(attach);
     return 0;
 }
@@ -70,6 +95,7 @@ int name_detach(name_attach_t *attach, unsigned flags) {
 /* Returns the chid of a name, and sets *pid if the pid is known. */
 static int find_name(const char *name, pid_t *pid) {
     if (neutrino_remote()) return neutrino_remote_find(name, pid);
+    step_if_explored(DO_FIND_NAME);
     hold();
     int place = place_of_name(name), chid = place == -1 ? 0 : names[place].chid;
     release();

@@ -4,6 +4,7 @@ int ConnectServerInfo(pid_t pid, int coid, struct _server_info *info) {
     if (pid && pid != program) return fail(ESRCH);
     if (!info) return fail(EFAULT);
     int found = 0;
+    step_if_explored(DO_TABLES);
     memset(info, 0, sizeof *info);
     info->nd = info->srcnd = ND_LOCAL_NODE;
     info->scoid = neutrino_remote() ? neutrino_remote_scoid() : SIDE | PROGRAM;
@@ -62,4 +63,44 @@ int ConnectClientInfo(int scoid, struct _client_info *info, int ngroups) {
     if (!is_own && !neutrino_remote()) return fail(EINVAL);
     *info = (struct _client_info){.nd = ND_LOCAL_NODE};
     return is_own ? fill_own(info, ngroups) : fill_remote(scoid, info, ngroups);
+}
+
+/* Adds the groups of this program after the first __NGROUPS_MAX. Returns the longer info, or null. */
+static struct _client_info *add_groups(struct _client_info *info) {
+    int count = getgroups(0, NULL);
+    if (count <= __NGROUPS_MAX) return info;
+    struct _client_info *longer = realloc(info, sizeof *info + (size_t)count * sizeof(gid_t));
+    if (!longer) return NULL;
+    gid_t *groups = (gid_t *)((char *)longer + offsetof(struct _client_info, cred.grouplist)); /* and more after it */
+    count = getgroups(count, groups);
+    longer->cred.ngroups = count > 0 ? (uint32_t)count : 0;
+    return longer;
+}
+
+int ConnectClientInfoExt(int scoid, struct _client_info **info_pp, int flags) {
+    bool takes_groups = flags & _NTO_CLIENTINFO_GETGROUPS;
+    if (!info_pp) return fail(EFAULT);
+    if (flags & ~(_NTO_CLIENTINFO_GETGROUPS | _NTO_CLIENTINFO_GETTYPEID)) return fail(EINVAL);
+    struct _client_info *info = malloc(sizeof *info);
+    if (!info) return fail(ENOMEM);
+    if (ConnectClientInfo(scoid, info, takes_groups ? __NGROUPS_MAX : 0)) {
+        int error = errno;
+        free(info);
+        return fail(error);
+    }
+    struct _client_info *whole = takes_groups && info->pid == program ? add_groups(info) : info;
+    if (!whole) {
+        free(info);
+        return fail(ENOMEM);
+    }
+    free(*info_pp);
+    *info_pp = whole;
+    return 0;
+}
+
+int ClientInfoExtFree(struct _client_info **info_pp) {
+    if (!info_pp) return fail(EFAULT);
+    free(*info_pp);
+    *info_pp = NULL;
+    return 0;
 }

@@ -126,6 +126,7 @@ static void record_call(const balsaeuchre_request *r, const void *sent, size_t s
         keep_line(&line);
     }
     pthread_mutex_unlock(&recording);
+    watch_call(event);
 }
 
 /* Opens the record if the environment names a file for it. Returns the hooks of the run. */
@@ -134,7 +135,8 @@ static const struct neutrino_hooks *hooks_of_run(void) {
     const char *file = getenv("BALSAEUCHRE_RECORD");
     record.fd = file && *file ? open(file, O_WRONLY | O_CREAT | O_TRUNC | O_CLOEXEC, 0666) : -1;
     if (file && *file && record.fd == -1) dprintf(STDERR_FILENO, "balsaeuchre: %s: %s\n", file, strerror(errno));
-    if (record.fd != -1) hooks.call = record_call;
+    if (record.fd != -1 || exploring) hooks.call = record_call;
+    explore_kernel();
     return &hooks;
 }
 

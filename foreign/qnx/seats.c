@@ -192,10 +192,14 @@ static void be_quiet(struct quiet *quiet) {
     sigfillset(&all);
     pthread_sigmask(SIG_SETMASK, &all, &quiet->signals);
     pthread_setcancelstate(PTHREAD_CANCEL_DISABLE, &quiet->cancel_state);
+    keep_turn(1);
+    look_away();
 }
 
 static void end_quiet(const struct quiet *quiet) {
     int ignored;
+    look_again();
+    keep_turn(-1);
     pthread_setcancelstate(quiet->cancel_state, &ignored);
     pthread_sigmask(SIG_SETMASK, &quiet->signals, NULL);
 }
@@ -222,9 +226,10 @@ static int take_seat(void) {
     return error ? fail(error) : 0;
 }
 
-/* Lets the calling thread make calls. EDEADLK: it is in a handler that interrupted the front, or in a handler
- * that interrupted a call and has forked since. */
+/* Lets the calling thread make calls, which use up its timeout. EDEADLK: it is in a handler that interrupted the front,
+ * or in a handler that interrupted a call and has forked since. */
 static int enter(void) {
+    next_wait.states = 0;
     if (holding || (!seat && neutrino_inside())) return fail(EDEADLK);
     return seat ? 0 : take_seat();
 }

@@ -1,6 +1,6 @@
-/* The front's own thread. It waits for timers, for pulses that signal handlers couldn't send, and for
- * SIGQUIT. Tested, not proved. */
-enum { ORDERS = TIMERS, EVERY = 20 }; /* EVERY: milliseconds between looks for circles */
+/* The front's own thread. It waits for timers, for interrupts, for files of select_attach, for pulses that
+ * signal handlers couldn't send, and for SIGQUIT. Tested, not proved. */
+enum { EVERY = 20 }; /* milliseconds between looks for circles */
 
 /* An order that the front's thread gets through a pipe. */
 struct order {
@@ -10,8 +10,10 @@ struct order {
 };
 
 static int orders[2] = {-1, -1};
+static _Atomic int given; /* orders of an explored run that aren't obeyed yet */
 
 static int give_order(const struct order *order) {
+    if (exploring) given++;
     return write(orders[1], order, sizeof *order) == sizeof *order ? 0 : fail(EAGAIN);
 }
 
@@ -35,22 +37,64 @@ static void obey(void) {
     else send_pulse(order.coid, order.priority, order.code, order.value);
 }
 
+/* Does what one event of the epoll asks for. */
+static void act(uint32_t number, uint32_t events) {
+    if (number < WAIT_ORDER) expire(&timers[number]);
+    else if (number == WAIT_ORDER) obey();
+    else if (number < WAIT_FILE) raise_line((int)number - WAIT_LINE);
+    else tell_file((int)number - WAIT_FILE, events);
+}
+
+/* The next event of an explored run: an interrupt's line is raised, or a file of select_attach is ready. */
+static struct epoll_event next_event;
+static bool has_next_event;
+
+static bool has_event(void) {
+    if (!has_next_event) has_next_event = epoll_wait(watched, &next_event, 1, 0) == 1;
+    return has_next_event;
+}
+
+static bool has_work(const struct task *t) {
+    (void)t;
+    return given || has_expired() || has_event();
+}
+
+/* The thread in an explored run. It begins when there is work, without a choice, and its pulses are calls like others.
+ */
+_Noreturn static void serve_explored(void) {
+    begin_task(&tasks[SERVICE]);
+    look_away();
+    if (!neutrino_join(kernel, TICKER)) seat = TICKER;
+    look_again();
+    for (;;) {
+        for (int at = 0; at < TIMERS; at++) {
+            if (virtual_timers[at].expired) expire(&timers[at]);
+        }
+        for (; given; given--) obey();
+        while (has_event()) {
+            has_next_event = false;
+            act(next_event.data.u32, next_event.events);
+        }
+        await_work(has_work);
+    }
+}
+
 static void *serve(void *tells_circles) {
     struct epoll_event event;
+    if (exploring) serve_explored();
     if (neutrino_remote() || !neutrino_join(kernel, TICKER)) seat = TICKER;
     for (;;) {
         int count = epoll_wait(watched, &event, 1, tells_circles ? EVERY : -1);
         if (count == -1 && errno != EINTR) return NULL; /* the program has closed all files */
         if (tells_circles) tell_circles();
         if (count != 1) continue;
-        if (event.data.u32 == ORDERS) obey();
-        else expire(&timers[event.data.u32]);
+        act(event.data.u32, event.events);
     }
 }
 
 /* Opens the pipe and the epoll. Returns whether both are open. */
 static bool open_service(void) {
-    struct epoll_event event = {.events = EPOLLIN, .data.u32 = ORDERS};
+    struct epoll_event event = {.events = EPOLLIN, .data.u32 = WAIT_ORDER};
     int epoll = epoll_create1(EPOLL_CLOEXEC);
     if (epoll == -1) return false;
     if (pipe2(orders, O_CLOEXEC | O_NONBLOCK) || epoll_ctl(epoll, EPOLL_CTL_ADD, orders[0], &event)) {
@@ -69,6 +113,7 @@ static void start_service(void) {
     const char *circles = getenv("BALSAEUCHRE_CIRCLES");
     if (!open_service()) return;
     bool tells = circles && *circles && strcmp(circles, "0");
+    if (exploring) create_service(has_work);
     if (start_own(&thread, serve, tells ? orders : NULL)) return;
     pthread_detach(thread);
     if (sigaction(SIGQUIT, NULL, &quit) || quit.sa_handler != SIG_DFL) return;
@@ -101,6 +146,8 @@ static void forget_all(void) {
     memset(notes, 0, sizeof notes);
     memset(names, 0, sizeof names);
     forget_record();
+    forget_lines();
+    forget_files();
     pthread_mutex_init(&systems, NULL);
     pthread_mutex_init(&front, NULL);
     pthread_cond_init(&given_back, NULL);

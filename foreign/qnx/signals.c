@@ -15,6 +15,7 @@ struct handling {
     int signo; /* the handler's signal if it is blocked meanwhile, or 0 */
 };
 
+static _Atomic int handled; /* the signals of an explored run whose handlers have run */
 static _Thread_local volatile struct handling handlings[NESTED];
 static _Thread_local volatile sig_atomic_t handling; /* the number of handlers that the thread is in */
 
@@ -56,6 +57,7 @@ static void on_signal(int signo, siginfo_t *info, void *context) {
     else ((void (*)(int))handler)(signo);
     handling = outer;
     errno = before;
+    if (exploring) handled++;
 }
 
 static bool is_handler(const struct sigaction *action) {
@@ -102,4 +104,17 @@ void (*neutrino_signal(int signo, void (*handler)(int)))(int) {
     if (handler != SIG_ERR && !neutrino_sigaction(signo, &action, &old)) return old.sa_handler;
     errno = EINVAL;
     return SIG_ERR;
+}
+
+/* In an explored run the caller waits until the handler has run, but not for long: the thread may block the signal. */
+int neutrino_pthread_kill(pthread_t thread, int signo) {
+    if (!explores() || signo < 1 || signo >= NSIG) return pthread_kill(thread, signo);
+    step_if_explored(DO_KILL);
+    struct task *t = task_of(thread);
+    int before = handled;
+    if (t && t->shown->operation == DO_SLEEP) t->is_signalled = true;
+    int error = pthread_kill(thread, signo);
+    bool waits = !error && t != me && atomic_load(&handlers[signo]);
+    for (int left = 1000; waits && handled == before && left; left--) pause_for_host(100000);
+    return error;
 }

@@ -6,6 +6,7 @@ struct start {
     bool has_met;  /* the thread or its creator has already called meet */
     int reserved;
     unsigned ticket;
+    struct task *task; /* of an explored run, or null */
 };
 
 static void tell_death(int tid);
@@ -15,14 +16,17 @@ static void tell_death(int tid);
 static void end_thread(void *argument) {
     (void)argument;
     int tid = seat;
+    begin_end();
     hold();
     if (!tid && has_reserved()) tid = reserved;
     release();
     if (seat) neutrino_leave();
     seat = reserved = 0;
-    if (!tid) return;
-    tell_death(tid);
-    give_back(tid);
+    if (tid) {
+        tell_death(tid);
+        give_back(tid);
+    }
+    end_task();
 }
 
 /* A thread and its creator both call this. The first caller writes the thread's id. So the thread finds the
@@ -42,6 +46,7 @@ static void meet(struct start *start, pthread_t thread) {
 static void *run_thread(void *own) {
     struct start *start = own;
     void *(*function)(void *argument) = start->function, *argument = start->argument;
+    begin_task(start->task);
     reserved = start->reserved;
     ticket = start->ticket;
     meet(start, pthread_self());
@@ -117,13 +122,14 @@ int neutrino_pthread_create(pthread_t *thread, const pthread_attr_t *attributes,
         free(start);
         return EAGAIN;
     }
-    *start = (struct start){.function = function, .argument = argument, .id = thread};
+    *start = (struct start){.function = function, .argument = argument, .id = thread, .task = begin_creation()};
     reserve_both(start, attributes);
     if (attributes) {
         hosts = *attributes; /* only for this call */
         pthread_attr_setinheritsched(&hosts, PTHREAD_INHERIT_SCHED);
     }
     int error = pthread_create(&created, attributes ? &hosts : NULL, run_thread, start);
+    end_creation(start->task, error, created, start->reserved);
     if (error) give_up(start);
     else meet(start, created);
     return error;
@@ -147,6 +153,7 @@ static int set_priority(int tid, int policy, int priority) {
     struct sched_param param = {.sched_priority = priority};
     enum use use = seat_of(tid).use;
     if (use == FREE) return fail(ESRCH);
+    if (policy == SCHED_ADJTOHEAD || policy == SCHED_ADJTOTAIL) return 0;
     if (!is_priority(priority)) return fail(EINVAL);
     hold();
     seats[tid].priority = priority;
@@ -159,11 +166,13 @@ int SchedSet(pid_t pid, int tid, int policy, const struct sched_param *param) {
     if (enter()) return -1;
     if (!param) return fail(EFAULT);
     if (pid && pid != program) return fail(ESRCH);
+    step_if_explored(DO_TABLES);
     return set_priority(named_tid(tid), policy, param->sched_priority);
 }
 
 int SchedGet(pid_t pid, int tid, struct sched_param *param) {
     if (enter()) return -1;
+    step_if_explored(DO_TABLES);
     tid = pid && pid != program ? 0 : named_tid(tid);
     struct seat s = seat_of(tid);
     if (s.use == FREE) return fail(ESRCH);
@@ -191,7 +200,7 @@ int ClockId(pid_t pid, int tid) {
     return error ? fail(error) : id;
 }
 
-int SchedYield(void) { return sched_yield(); }
+int SchedYield(void) { return neutrino_sched_yield(); }
 
 int getprio(pid_t pid) {
     struct sched_param param;
@@ -247,7 +256,9 @@ int neutrino_pthread_getschedparam(pthread_t thread, int *policy, struct sched_p
 
 /* Cancels a thread, and ends the call in which it is blocked. The thread ends when that call returns. */
 int neutrino_pthread_cancel(pthread_t thread) {
+    step_if_explored(DO_CANCEL);
     int before = errno, error = pthread_cancel(thread);
+    if (!error) cancel_task(thread);
     /* Under the lock no seat gets another thread. If a thread takes its seat later, it finds the cancellation
      * first. */
     hold();
@@ -263,6 +274,7 @@ int neutrino_pthread_setname_np(pthread_t thread, const char *name) {
     char cut[THREAD_NAME];
     if (!thread) thread = pthread_self();
     snprintf(cut, sizeof cut, "%s", name);
+    show_name(thread, cut);
     int error = pthread_setname_np(thread, cut), tid = error ? 0 : tid_of(thread);
     if (seat_of(tid).use == TAKEN) record_seat(tid, thread);
     return error;
@@ -280,15 +292,22 @@ static int change_name(struct _thread_name *name) {
     return error;
 }
 
-int ThreadCtl(int cmd, void *data) {
-    if (enter()) return -1;
-    if (cmd >= _NTO_TCTL_IO && cmd <= _NTO_TCTL_RUNMASK) return 0;
-    int error = cmd != _NTO_TCTL_NAME ? EINVAL : !data ? EFAULT : change_name(data);
-    return error ? fail(error) : 0;
+static _Thread_local unsigned runmask = ~0u; /* as it was last set */
+
+/* Sets the calling thread's mask, and writes its old mask. */
+static int change_runmask(unsigned *mask) {
+    unsigned old = runmask;
+    runmask = *mask;
+    *mask = old;
+    return 0;
 }
 
-unsigned delay(unsigned milliseconds) {
-    struct timespec left = {0, 0}, time = {(time_t)(milliseconds / 1000), (long)(milliseconds % 1000) * 1000000};
-    if (!nanosleep(&time, &left)) return 0;
-    return (unsigned)(left.tv_sec * 1000 + left.tv_nsec / 1000000);
+int ThreadCtl(int cmd, void *data) {
+    if (enter()) return -1;
+    if (cmd == _NTO_TCTL_RUNMASK) runmask = (unsigned)(uintptr_t)data;
+    if (cmd >= _NTO_TCTL_IO && cmd <= _NTO_TCTL_RUNMASK) return 0;
+    if (cmd >= _NTO_TCTL_THREADS_HOLD && cmd <= _NTO_TCTL_ONE_THREAD_CONT) return fail(ENOTSUP);
+    if (cmd == _NTO_TCTL_RUNMASK_GET_AND_SET) return data ? change_runmask(data) : fail(EFAULT);
+    int error = cmd != _NTO_TCTL_NAME ? EINVAL : !data ? EFAULT : change_name(data);
+    return error ? fail(error) : 0;
 }

@@ -36,6 +36,7 @@ static struct timer *timer_of(timer_t id) {
 static int watch_timer(struct timer *new, int at) {
     new->fd = watched == -1 ? fail(EAGAIN) : timerfd_create(new->clock, TFD_CLOEXEC | TFD_NONBLOCK);
     if (new->fd == -1) return -1;
+    if (exploring) return open_virtual_timer(at, new->clock);
     struct epoll_event event = {.events = EPOLLIN, .data.u32 = (uint32_t)at};
     if (!epoll_ctl(watched, EPOLL_CTL_ADD, new->fd, &event)) return 0;
     close(new->fd);
@@ -80,6 +81,7 @@ int neutrino_timer_settime(timer_t timer, int flags, const struct itimerspec *va
     if (!t) return -1;
     t->flags = flags;
     if (t->fd == -1) return hosts_settime(t->hosts, flags, value, old);
+    if (exploring) return set_virtual_timer(timer - 1, flags, value, old);
     int result = timerfd_settime(t->fd, flags & TIMER_ABSTIME ? TFD_TIMER_ABSTIME : 0, value, old);
     t->settings++;
     t->overruns = 0;
@@ -88,6 +90,7 @@ int neutrino_timer_settime(timer_t timer, int flags, const struct itimerspec *va
 
 int neutrino_timer_gettime(timer_t timer, struct itimerspec *value) {
     const struct timer *t = timer_of(timer);
+    if (exploring && t && t->fd != -1) return get_virtual_timer(timer - 1, value);
     return !t ? -1 : t->fd != -1 ? timerfd_gettime(t->fd, value) : hosts_gettime(t->hosts, value);
 }
 
@@ -97,6 +100,7 @@ int neutrino_timer_getoverrun(timer_t timer) {
 }
 
 int TimerDestroy(timer_t id) {
+    if (exploring) close_virtual_timer(id);
     hold();
     struct timer *t = timer_of(id);
     if (t && t->fd != -1) close(t->fd);
@@ -144,7 +148,8 @@ static void expire(struct timer *t) {
     hold();
     unsigned settings = t->settings;
     struct sigevent event = t->event;
-    if (!t->is_used || read(t->fd, &times, sizeof times) != sizeof times) times = 0;
+    if (exploring) times = take_expiries((int)(t - timers));
+    else if (!t->is_used || read(t->fd, &times, sizeof times) != sizeof times) times = 0;
     release();
     for (; times && !send_event_pulse(&event); times--) continue;
     hold();
@@ -157,7 +162,7 @@ static void expire(struct timer *t) {
 
 int ClockTime(clockid_t id, const uint64_t *new, uint64_t *old) {
     struct timespec time;
-    if (clock_gettime(id, &time)) return -1;
+    if (neutrino_clock_gettime(id, &time)) return -1;
     if (old) *old = timespec2nsec(&time);
     return !new ? 0 : fail(id == CLOCK_REALTIME ? EPERM : EINVAL);
 }
@@ -171,36 +176,26 @@ int ClockPeriod(clockid_t id, const struct _clockperiod *new, struct _clockperio
 
 /* ---- timeouts */
 
-/* The nanoseconds after which the next pthread_join times out, plus 1; 0: it has no timeout. */
-static _Thread_local uint64_t join_time;
-
-int neutrino_pthread_join(pthread_t thread, void **value) {
-    uint64_t time = join_time;
-    struct timespec until;
-    join_time = 0;
-    if (!time) return pthread_join(thread, value);
-    clock_gettime(CLOCK_REALTIME, &until);
-    time += timespec2nsec(&until) - 1;
-    nsec2timespec(&until, time);
-    return pthread_timedjoin_np(thread, value, &until);
+/* Returns the nanoseconds until a time of a clock, or fails. */
+static int time_until(clockid_t id, uint64_t *time) {
+    struct timespec now;
+    if (read_clock(id, &now)) return -1;
+    *time = *time > timespec2nsec(&now) ? *time - timespec2nsec(&now) : 0;
+    return 0;
 }
 
 int TimerTimeout(clockid_t id, int flags, const struct sigevent *notify, const uint64_t *ntime, uint64_t *otime) {
-    uint64_t left = ntime ? *ntime : 0;
+    uint64_t time = ntime ? *ntime : 0, old = next_wait.states ? next_wait.time : 0;
+    int states = flags & ~TIMER_ABSTIME;
     if (enter()) return -1;
     if (notify && SIGEV_GET_TYPE(notify) != SIGEV_UNBLOCK) return fail(EINVAL);
-    int known = _NTO_TIMEOUT_SEND | _NTO_TIMEOUT_RECEIVE | _NTO_TIMEOUT_REPLY | _NTO_TIMEOUT_JOIN;
-    int others = _NTO_TIMEOUT_CONDVAR | _NTO_TIMEOUT_INTR | _NTO_TIMEOUT_MUTEX | _NTO_TIMEOUT_NANOSLEEP |
-                 _NTO_TIMEOUT_SEM | _NTO_TIMEOUT_SIGSUSPEND | _NTO_TIMEOUT_SIGWAITINFO;
-    if (flags & known) flags &= ~others;
-    if (flags & TIMER_ABSTIME) {
-        struct timespec now;
-        if (clock_gettime(id, &now)) return -1;
-        left = left > timespec2nsec(&now) ? left - timespec2nsec(&now) : 0;
-    }
-    flags &= ~TIMER_ABSTIME;
-    join_time = flags & _NTO_TIMEOUT_JOIN && left < INT64_MAX / 2 ? left + 1 : 0;
-    return layer_TimerTimeout(id, flags & ~_NTO_TIMEOUT_JOIN, NULL, ntime ? &left : NULL, otime);
+    if (states & ~(MESSAGE_STATES | HOST_STATES)) return fail(EINVAL);
+    if (flags & TIMER_ABSTIME && time_until(id, &time)) return -1;
+    if (layer_TimerTimeout(id, states & MESSAGE_STATES, NULL, &time, NULL)) return -1;
+    if (otime) *otime = old;
+    next_wait.states = states;
+    next_wait.time = time;
+    return 0;
 }
 
 int timer_timeout(clockid_t id, int flags, const struct sigevent *notify, const struct timespec *ntime,

@@ -27,6 +27,8 @@ int neutrino_cancel(neutrino *k, int tid) {
 
 void neutrino_set_hooks(neutrino *k, const struct neutrino_hooks *hooks) { k->hooks = *hooks; }
 
+void neutrino_set_scheduler(neutrino *k, const struct neutrino_scheduler *scheduler) { k->scheduler = scheduler; }
+
 int neutrino_look(neutrino *k, struct neutrino_blocked *all) {
     if (refuse(k)) return -1;
     memset(all, 0, 256 * sizeof *all);

@@ -23,9 +23,38 @@ static struct event event_of(neutrino *k, const struct place *p) {
     return e;
 }
 
+/* The data of a call that the scheduler gets. */
+struct use {
+    bool is_valid; /* its number names something */
+    int chid, client;
+};
+
+/* Returns the data of a call as they are now. No other thread of the kernel runs meanwhile. */
+static struct use use_of(const neutrino *k, const struct call *c) {
+    struct use use = {.is_valid = !c->table || id_of(k, c->table, c->number, c->owner)};
+    if (c->table == CHANNELS) use.chid = c->number;
+    if (c->table == CONNECTIONS) use.chid = k->connections[place_in(&k->tables[CONNECTIONS], c->number)].peer;
+    for (int at = 0; c->table == MESSAGES && use.is_valid && at < PLACES; at++) {
+        if (k->places[at].rcvid != c->number) continue;
+        use.client = k->places[at].tid;
+        use.chid = k->places[at].chid;
+    }
+    return use;
+}
+
+/* Waits until the scheduler lets the thread make its call. It is out of line, so that other calls don't save registers
+ * for it. */
+__attribute__((noinline, cold)) static void await_turn(const neutrino *k, const struct call *c) {
+    struct use use = use_of(k, c);
+    k->scheduler->turn(c->request.kind, use.chid, use.client);
+    use = use_of(k, c);
+    k->scheduler->before(c->request.kind, use.is_valid, use.chid, use.client);
+}
+
 /* Makes the call, and waits for its completion. p->error and p->result have the result. */
 static void make(neutrino *k, struct place *p, struct call *c) {
     uint64_t ended = 0, own = bit_of(k, p);
+    if (k->scheduler) await_turn(k, c);
     start_timeout(p, c);
     if ((p->error = note_call(k, p, c))) return;
     take(k);
@@ -50,6 +79,7 @@ static long call_long(struct call *c) {
     make(kernel, p, c);
     int error = p->error;
     long result = p->result;
+    if (kernel->scheduler) kernel->scheduler->after();
     inside--;
     pthread_setcancelstate(cancel, &ignored);
     return error ? fail(error) : result;

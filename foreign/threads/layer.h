@@ -123,8 +123,9 @@ struct neutrino {
      * yet writes the field most. */
     _Alignas(CACHE_LINE) balsaeuchre library;
     struct neutrino_hooks hooks;
-    size_t most;   /* the longest buffer of all places */
-    pid_t process; /* the host's process that opened it */
+    const struct neutrino_scheduler *scheduler; /* or null */
+    size_t most;                                /* the longest buffer of all places */
+    pid_t process;                              /* the host's process that opened it */
     _Alignas(CACHE_LINE) struct names tables[TABLES];
     uint8_t place_of[256];                      /* by tid; PLACES: no thread has this number */
     uint8_t clock_of[256];                      /* by process: the thread that unblocks calls that time out */

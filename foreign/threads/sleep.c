@@ -45,9 +45,10 @@ static void unlock(neutrino *k) {
     inside--;
 }
 
-/* Returns the nanoseconds of CLOCK_MONOTONIC. */
+/* Returns the nanoseconds of CLOCK_MONOTONIC, or the scheduler's time. */
 static uint64_t now(void) {
     struct timespec t;
+    if (kernel && kernel->scheduler) return kernel->scheduler->now();
     clock_gettime(CLOCK_MONOTONIC, &t);
     return (uint64_t)t.tv_sec * 1000000000u + (uint64_t)t.tv_nsec;
 }
@@ -75,11 +76,22 @@ static bool look(struct place *p) {
 
 enum woken { HAS_ENDED, TIMED_OUT, WAS_INTERRUPTED };
 
+/* Waits like sleep_until, for the scheduler. */
+__attribute__((noinline, cold)) static enum woken wait_for_turn(struct place *p, uint64_t until) {
+    for (;;) {
+        bool is_late = kernel->scheduler->wait(p->tid, &p->word, until);
+        if (is_ended(p)) return HAS_ENDED;
+        if (atomic_load(&p->word) == INTERRUPTED) return WAS_INTERRUPTED;
+        if (is_late) return TIMED_OUT;
+    }
+}
+
 /* Waits until the call is completed or interrupted, or until a time that is not 0. An interruption changes
  * the word, which futex compares. So no interruption is lost, wherever in this function its handler runs. */
 static enum woken sleep_until(struct place *p, uint64_t until) {
     struct timespec end = {0, 0};
     uint32_t open = OPEN;
+    if (kernel->scheduler) return wait_for_turn(p, until);
     if (look(p)) return HAS_ENDED;
     if (until) end = (struct timespec){(time_t)(until / 1000000000u), (long)(until % 1000000000u)};
     atomic_compare_exchange_strong(&p->word, &open, ASLEEP);
@@ -105,6 +117,7 @@ static uint64_t tell(neutrino *k, uint64_t ended) {
     for (; ended; ended &= ended - 1) {
         int place = __builtin_ctzll(ended);
         if (atomic_exchange(&k->places[place].word, ENDED) == ASLEEP) asleep |= 1ull << place;
+        if (k->scheduler) k->scheduler->ended(k->places[place].tid);
     }
     return asleep;
 }

@@ -112,7 +112,8 @@ impl ReportedRun {
     /// Notes a failure of the call with this number, unless `MOST_REFUSALS` are noted already.
     fn note(&mut self, number: u64, refusal: String) -> Result<(), AllocError> {
         if self.report.refusals.len() < MOST_REFUSALS {
-            self.report.refusals.push((self.line_of(number), refusal))?;
+            let line = self.line_of(number);
+            self.report.refusals.push((line, refusal))?;
         }
         Ok(())
     }

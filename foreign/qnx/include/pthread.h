@@ -11,7 +11,11 @@
  *   pthread_getschedparam        returns the thread's priority, and the policy that was last set, or
  *                                SCHED_RR. ESRCH as above
  *   pthread_cancel               ends a call in which the thread is blocked
- *   pthread_join                 ends with ETIMEDOUT after a TimerTimeout with _NTO_TIMEOUT_JOIN
+ *   pthread_join, pthread_mutex_lock, pthread_cond_wait
+ *                                end with ETIMEDOUT after a TimerTimeout with _NTO_TIMEOUT_JOIN, MUTEX or
+ *                                CONDVAR
+ *   pthread_mutex_timedlock, pthread_cond_timedwait
+ *                                use up such a timeout, and have only their own limit, as under QNX
  *   pthread_setname_np           sets the thread's name in neutrino_show and in a record
  */
 #pragma GCC system_header
@@ -24,7 +28,31 @@
 #pragma redefine_extname pthread_setschedprio neutrino_pthread_setschedprio
 #pragma redefine_extname pthread_cancel neutrino_pthread_cancel
 #pragma redefine_extname pthread_join neutrino_pthread_join
+#pragma redefine_extname pthread_mutex_lock neutrino_pthread_mutex_lock
+#pragma redefine_extname pthread_mutex_timedlock neutrino_pthread_mutex_timedlock
+#pragma redefine_extname pthread_cond_wait neutrino_pthread_cond_wait
+#pragma redefine_extname pthread_cond_timedwait neutrino_pthread_cond_timedwait
 #pragma redefine_extname pthread_setname_np neutrino_pthread_setname_np
+#pragma redefine_extname pthread_mutex_clocklock neutrino_pthread_mutex_clocklock
+#pragma redefine_extname pthread_mutex_trylock neutrino_pthread_mutex_trylock
+#pragma redefine_extname pthread_mutex_unlock neutrino_pthread_mutex_unlock
+#pragma redefine_extname pthread_cond_clockwait neutrino_pthread_cond_clockwait
+#pragma redefine_extname pthread_cond_signal neutrino_pthread_cond_signal
+#pragma redefine_extname pthread_cond_broadcast neutrino_pthread_cond_broadcast
+#pragma redefine_extname pthread_barrier_init neutrino_pthread_barrier_init
+#pragma redefine_extname pthread_barrier_destroy neutrino_pthread_barrier_destroy
+#pragma redefine_extname pthread_barrier_wait neutrino_pthread_barrier_wait
+#pragma redefine_extname pthread_rwlock_rdlock neutrino_pthread_rwlock_rdlock
+#pragma redefine_extname pthread_rwlock_timedrdlock neutrino_pthread_rwlock_timedrdlock
+#pragma redefine_extname pthread_rwlock_tryrdlock neutrino_pthread_rwlock_tryrdlock
+#pragma redefine_extname pthread_rwlock_wrlock neutrino_pthread_rwlock_wrlock
+#pragma redefine_extname pthread_rwlock_timedwrlock neutrino_pthread_rwlock_timedwrlock
+#pragma redefine_extname pthread_rwlock_trywrlock neutrino_pthread_rwlock_trywrlock
+#pragma redefine_extname pthread_rwlock_unlock neutrino_pthread_rwlock_unlock
+#pragma redefine_extname pthread_spin_lock neutrino_pthread_spin_lock
+#pragma redefine_extname pthread_spin_trylock neutrino_pthread_spin_trylock
+#pragma redefine_extname pthread_spin_unlock neutrino_pthread_spin_unlock
+#pragma redefine_extname pthread_once neutrino_pthread_once
 #endif
 #include <sched.h>
 #pragma push_macro("__nonnull")
@@ -38,6 +66,12 @@
 #ifdef __cplusplus
 extern "C" {
 #endif
+
+/* Makes a recursive mutex. */
+#define PTHREAD_RMUTEX_INITIALIZER \
+    { \
+        { __PTHREAD_MUTEX_INITIALIZER(PTHREAD_MUTEX_RECURSIVE_NP) } \
+    }
 
 /* The host declares these two only for _GNU_SOURCE. */
 int pthread_setname_np(pthread_t thread, const char *name) __THROW;

@@ -9,6 +9,7 @@
 #pragma redefine_extname sched_getscheduler neutrino_sched_getscheduler
 #pragma redefine_extname sched_get_priority_min neutrino_sched_get_priority_min
 #pragma redefine_extname sched_get_priority_max neutrino_sched_get_priority_max
+#pragma redefine_extname sched_yield neutrino_sched_yield
 #endif
 #ifndef _BITS_TYPES_STRUCT_SCHED_PARAM
 /* The host's struct has only the first member, and is only passed by address. */
@@ -28,6 +29,9 @@ extern "C" {
 
 #define SCHED_NOCHANGE 0x6e00 /* with this, SchedSet doesn't change the policy */
 #define SCHED_SPORADIC 0x6e01
+#define SCHED_ADJTOHEAD 0x6e02 /* SchedSet does nothing: no thread waits for a processor here */
+#define SCHED_ADJTOTAIL 0x6e03
+#define SCHED_SETPRIO SCHED_NOCHANGE
 
 /* Return and set the priority of the calling thread. pid is 0 or the program's. setprio returns the old
  * priority. -1: ESRCH (another process), EINVAL (the priority isn't from 1 to 255), and the errors of a first

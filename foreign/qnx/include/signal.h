@@ -4,6 +4,7 @@
 #ifndef BALSAEUCHRE_QNX_NO_WRAPPERS
 #pragma redefine_extname sigaction neutrino_sigaction
 #pragma redefine_extname signal neutrino_signal
+#pragma redefine_extname pthread_kill neutrino_pthread_kill
 #endif
 #include_next <signal.h>
 #include <sys/siginfo.h>

@@ -1,7 +1,8 @@
 /* The host's time.h, with QNX's timer_t. A timer of SIGEV_PULSE sends a pulse over its connection at each
  * expiry; timer_getoverrun counts the pulses that the kernel refused. A timer of another event is the host's.
  * The errors of timer_create: EAGAIN (256 timers), EINVAL (the pulse's code or priority, or a clock that has
- * no timers), EFAULT (no place for the id), and the errors of a first call. */
+ * no timers), EFAULT (no place for the id), and the errors of a first call. nanosleep and clock_nanosleep end
+ * with ETIMEDOUT after a TimerTimeout with _NTO_TIMEOUT_NANOSLEEP. */
 #pragma GCC system_header
 #ifndef BALSAEUCHRE_QNX_NO_WRAPPERS
 #pragma redefine_extname timer_create neutrino_timer_create
@@ -9,6 +10,10 @@
 #pragma redefine_extname timer_gettime neutrino_timer_gettime
 #pragma redefine_extname timer_getoverrun neutrino_timer_getoverrun
 #pragma redefine_extname timer_delete TimerDestroy
+#pragma redefine_extname clock_gettime neutrino_clock_gettime
+#pragma redefine_extname clock_nanosleep neutrino_clock_nanosleep
+#pragma redefine_extname nanosleep neutrino_nanosleep
+#pragma redefine_extname time neutrino_time
 #endif
 #include_next <time.h>
 #if defined CLOCK_MONOTONIC && !defined BALSAEUCHRE_QNX_TIME_H

@@ -313,6 +313,16 @@ static void *make_timer(void *argument) {
     return argument;
 }
 
+/* Sends a message to a channel of its own. Nobody receives it, and the call times out. */
+static void *send_to_itself(void *argument) {
+    uint64_t time = 100000; /* nanoseconds */
+    pthread_barrier_wait(&together);
+    int coid = attach(ChannelCreate(0));
+    check(TimerTimeout(CLOCK_MONOTONIC, _NTO_TIMEOUT_SEND, NULL, &time, NULL) == 0);
+    check(MsgSend(coid, "a", 1, NULL, 0) == -1 && errno == ETIMEDOUT);
+    return argument;
+}
+
 /* The first calls of a program, by several threads at once. */
 void first_calls(void) {
     enum { MANY = 6 };
@@ -323,7 +333,7 @@ void first_calls(void) {
         if (child == 0) {
             alarm(HANGS);
             check(pthread_barrier_init(&together, NULL, MANY) == 0);
-            for (int at = 0; at < MANY; at++) threads[at] = start(make_timer, NULL);
+            for (int at = 0; at < MANY; at++) threads[at] = start(at % 2 ? make_timer : send_to_itself, NULL);
             for (int at = 0; at < MANY; at++) result_of(threads[at]);
             _exit(0);
         }

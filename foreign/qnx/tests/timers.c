@@ -258,7 +258,9 @@ void timeout_errors(void) {
     fails(TimerTimeout(CLOCK_MONOTONIC, _NTO_TIMEOUT_SEND, &event, &time, NULL), EINVAL);
     SIGEV_UNBLOCK_INIT(&event);
     check(TimerTimeout(CLOCK_MONOTONIC, 0, &event, &time, NULL) == 0);
-    fails(TimerTimeout(CLOCK_MONOTONIC, _NTO_TIMEOUT_SEM, &event, &time, NULL), EINVAL);
+    fails(TimerTimeout(CLOCK_MONOTONIC, _NTO_TIMEOUT_SIGSUSPEND, &event, &time, NULL), EINVAL);
+    fails(TimerTimeout(CLOCK_MONOTONIC, _NTO_TIMEOUT_SIGWAITINFO, &event, &time, NULL), EINVAL);
+    fails(TimerTimeout(CLOCK_MONOTONIC, _NTO_TIMEOUT_SEND | _NTO_TIMEOUT_SIGWAITINFO, NULL, &time, NULL), EINVAL);
     fails(TimerTimeout(CLOCK_MONOTONIC, _NTO_TIMEOUT_SEND | 0x40000000, &event, &time, NULL), EINVAL);
     check(TimerTimeout(CLOCK_MONOTONIC, _NTO_TIMEOUT_SEND | _NTO_TIMEOUT_MUTEX, &event, &time, NULL) == 0);
     check(TimerTimeout(CLOCK_MONOTONIC, 0, &event, &time, NULL) == 0);

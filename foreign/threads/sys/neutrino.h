@@ -137,6 +137,30 @@ struct neutrino_hooks {
 /* Sets the hooks. It has to be called before a second thread uses the kernel. */
 void neutrino_set_hooks(neutrino *kernel, const struct neutrino_hooks *hooks);
 
+/* The functions of a library that lets one thread run at a time, and chooses which. The layer calls them
+ * without the kernel's lock, except ended. They may call no function of this header. None may be null. */
+struct neutrino_scheduler {
+    /* The calling thread waits for its turn to make a call. kind is BALSAEUCHRE_SEND and so on. chid is the channel
+     * that the call uses, or 0. client is the thread whose message the call uses, or 0. */
+    void (*turn)(uint32_t kind, int chid, int client);
+    /* The calling thread has its turn, and is about to make the call. is_valid: the call's number names something. The
+     * other arguments may have changed since turn. */
+    void (*before)(uint32_t kind, int is_valid, int chid, int client);
+    /* The calling thread's call is about to return. */
+    void (*after)(void);
+    /* The calling thread's call has to wait until *word is at least 2, or until a time if that isn't 0. Returns
+     * whether that time has come. tid is the thread's number. */
+    int (*wait)(int tid, const void *word, uint64_t until);
+    /* The calling thread has completed or cancelled the call of this thread. */
+    void (*ended)(int tid);
+    /* Returns the time in nanoseconds, in place of CLOCK_MONOTONIC. */
+    uint64_t (*now)(void);
+};
+
+/* Sets the scheduler, which has to stay. It has to be called before a second thread uses the kernel. Without
+ * a scheduler the host schedules the threads. */
+void neutrino_set_scheduler(neutrino *kernel, const struct neutrino_scheduler *scheduler);
+
 struct neutrino_blocked {
     int state;  /* as neutrino_state returns it; 0: no thread has joined with this number */
     int chid;   /* of the channel on which it is blocked, or 0 */

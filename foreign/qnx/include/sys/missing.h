@@ -31,24 +31,18 @@ extern "C" {
 
 NEUTRINO_MISSING(ChannelConnectAttr);
 NEUTRINO_MISSING(ChannelCreateExt);
-NEUTRINO_MISSING(ChannelCreatePulsePool);
 NEUTRINO_MISSING(ClockAdjust);
 NEUTRINO_MISSING(ClockId_r);
 NEUTRINO_MISSING(ConnectClientInfoAble);
-NEUTRINO_MISSING(ConnectClientInfoExt);
 NEUTRINO_MISSING(InterruptAttach);
-NEUTRINO_MISSING(InterruptAttachEvent);
-NEUTRINO_MISSING(InterruptDetach);
+NEUTRINO_MISSING(InterruptAttachThread);
+NEUTRINO_MISSING(InterruptCharacteristic);
 NEUTRINO_MISSING(InterruptDisable);
 NEUTRINO_MISSING(InterruptEnable);
 NEUTRINO_MISSING(InterruptHookIdle);
 NEUTRINO_MISSING(InterruptHookTrace);
 NEUTRINO_MISSING(InterruptLock);
-NEUTRINO_MISSING(InterruptMask);
 NEUTRINO_MISSING(InterruptUnlock);
-NEUTRINO_MISSING(InterruptUnmask);
-NEUTRINO_MISSING(InterruptWait);
-NEUTRINO_MISSING(MsgPause);
 NEUTRINO_MISSING(MsgReadiov);
 NEUTRINO_MISSING(MsgReceiveAsync);
 NEUTRINO_MISSING(MsgSendAsync);

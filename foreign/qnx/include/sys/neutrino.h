@@ -46,6 +46,8 @@
 #include <stddef.h>
 #include <stdint.h>
 #include <sys/missing.h>
+#include <sys/neutrino_interrupts.h>
+#include <sys/neutrino_peers.h>
 #include <sys/siginfo.h>
 #include <sys/types.h>
 #include <sys/uio.h>
@@ -68,15 +70,16 @@ extern "C" {
 #define _NTO_MI_BITS_DIFF 0x800
 #define _NTO_MI_BITS_64 0
 
-/* A timeout ends this state, and _NTO_TIMEOUT_SEND, _NTO_TIMEOUT_RECEIVE and _NTO_TIMEOUT_REPLY. */
-#define _NTO_TIMEOUT_JOIN (1 << 12)
+/* States that a timeout ends, with _NTO_TIMEOUT_SEND, _NTO_TIMEOUT_RECEIVE and _NTO_TIMEOUT_REPLY. In these
+ * states the thread waits in a function of the host, or in InterruptWait. */
+#define _NTO_TIMEOUT_CONDVAR (1 << 10)   /* pthread_cond_wait, pthread_cond_timedwait */
+#define _NTO_TIMEOUT_INTR (1 << 11)      /* InterruptWait */
+#define _NTO_TIMEOUT_JOIN (1 << 12)      /* pthread_join */
+#define _NTO_TIMEOUT_MUTEX (1 << 13)     /* pthread_mutex_lock, pthread_mutex_timedlock */
+#define _NTO_TIMEOUT_NANOSLEEP (1 << 14) /* nanosleep, clock_nanosleep, sleep, usleep, delay */
+#define _NTO_TIMEOUT_SEM (1 << 15)       /* sem_wait, sem_timedwait */
 
-/* States that no timeout ends. TimerTimeout ignores them if flags also has a state that a timeout ends. */
-#define _NTO_TIMEOUT_CONDVAR (1 << 10)
-#define _NTO_TIMEOUT_INTR (1 << 11)
-#define _NTO_TIMEOUT_MUTEX (1 << 13)
-#define _NTO_TIMEOUT_NANOSLEEP (1 << 14)
-#define _NTO_TIMEOUT_SEM (1 << 15)
+/* States that no timeout ends: TimerTimeout fails with EINVAL. */
 #define _NTO_TIMEOUT_SIGSUSPEND (1 << 16)
 #define _NTO_TIMEOUT_SIGWAITINFO (1 << 17)
 
@@ -98,6 +101,21 @@ typedef int rcvid_t;
 int ChannelCreate(unsigned flags);
 int ChannelCreate_r(unsigned flags);
 
+/* A channel's own pool of pulses, and the event that tells its server that the pool is used up. */
+struct nto_channel_config {
+    struct sigevent event;
+    unsigned num_pulses;
+    unsigned rearm_threshold;
+    unsigned options;
+    unsigned reserved[3];
+};
+
+/* ChannelCreate with a pool of pulses. Each channel has 1,024 places for pulses here, whatever num_pulses
+ * says, and the event is never delivered: the sender of one pulse more gets EAGAIN. -1: EINVAL (no config, no
+ * pulses, or more than 1,024), and the errors of ChannelCreate. */
+int ChannelCreatePulsePool(unsigned flags, const struct nto_channel_config *config);
+int ChannelCreatePulsePool_r(unsigned flags, const struct nto_channel_config *config);
+
 /* Destroys a channel. MsgSend and MsgReceive on it are cancelled with ESRCH. EINVAL: no such channel. */
 int ChannelDestroy(int chid);
 int ChannelDestroy_r(int chid);
@@ -106,12 +124,20 @@ int ChannelDestroy_r(int chid);
 #define _NTO_SIDE_CHANNEL 0x40000000
 #define _NTO_GLOBAL_CHANNEL 0 /* QNX has channels of the whole system; here they are the program's */
 
+/* The system manager's process, channel and connection. There is none: ConnectAttach to it fails with ESRCH,
+ * and a MsgSend over its coid with EBADF. */
+#define SYSMGR_PID 1
+#define SYSMGR_CHID 1
+#define SYSMGR_COID _NTO_SIDE_CHANNEL
+#define SYSMGR_HANDLE 0
+
 /* Flags of a connection. Each is kept, and changes nothing. */
 #define _NTO_COF_CLOEXEC 0x1
 #define _NTO_COF_DEAD 0x2
 #define _NTO_COF_NOSHARE 0x40
 #define _NTO_COF_NETCON 0x80
 #define _NTO_COF_NONBLOCK 0x100
+#define _NTO_COF_REG_EVENTS 0x400
 
 /* Attaches to a channel. Returns the coid, which has the bit _NTO_SIDE_CHANNEL if index has it, or -1: ESRCH
  * (another node or process, or no such channel), EAGAIN (1,024 connections). */
@@ -127,50 +153,6 @@ int ConnectDetach_r(int coid);
  * (another process), EBADF (no such connection). */
 int ConnectFlags(pid_t pid, int coid, unsigned mask, unsigned bits);
 int ConnectFlags_r(pid_t pid, int coid, unsigned mask, unsigned bits);
-
-struct _server_info {
-    uint32_t nd;
-    uint32_t srcnd;
-    pid_t pid;
-    int32_t tid;
-    int32_t chid;
-    int32_t scoid;
-    int32_t coid;
-    int16_t priority;
-    int16_t flags; /* of the connection */
-    ssize_t msglen;
-    ssize_t srcmsglen;
-    ssize_t dstmsglen;
-    uint32_t type_id;
-    uint32_t reserved;
-};
-
-/* Fills in nd, pid, chid, scoid, coid and flags of a connection. If there is no such connection, it takes the
- * connection with the next greater coid. Returns the coid, or -1: ESRCH (another process), EINVAL (no
- * connection has this coid or a greater one). */
-int ConnectServerInfo(pid_t pid, int coid, struct _server_info *info);
-int ConnectServerInfo_r(pid_t pid, int coid, struct _server_info *info);
-
-#define __NGROUPS_MAX 8
-
-struct _cred_info {
-    uid_t ruid, euid, suid;
-    gid_t rgid, egid, sgid;
-    uint32_t ngroups;
-    gid_t grouplist[__NGROUPS_MAX];
-};
-
-struct _client_info {
-    uint32_t nd;
-    pid_t pid;
-    pid_t sid;
-    uint32_t flags;
-    struct _cred_info cred;
-};
-
-/* Fills in the process of an scoid, with at most ngroups groups. EINVAL: no such scoid. */
-int ConnectClientInfo(int scoid, struct _client_info *info, int ngroups);
-int ConnectClientInfo_r(int scoid, struct _client_info *info, int ngroups);
 
 /* ---- messages */
 
@@ -250,6 +232,11 @@ int MsgInfo_r(rcvid_t rcvid, struct _msg_info *info);
 int MsgCurrent(rcvid_t rcvid);
 int MsgCurrent_r(rcvid_t rcvid);
 
+/* Says that this thread works on the message later: the thread gets its own priority back, and the message
+ * stays held. The cookie isn't used. ESRCH. */
+int MsgPause(rcvid_t rcvid, unsigned cookie);
+int MsgPause_r(rcvid_t rcvid, unsigned cookie);
+
 #define _NTO_KEYDATA_CALCULATE 0
 #define _NTO_KEYDATA_VERIFY 1
 #define _NTO_KEYDATA_PATHSIGN 0x8000
@@ -318,10 +305,11 @@ int MsgUnregisterEvent_r(const struct sigevent *event);
 /* Sets the timeout of this thread's next call, as timer_timeout of time.h does. The call ends with ETIMEDOUT
  * once *ntime nanoseconds have passed and it is in one of the states of flags. But a client whose message is
  * received on a channel with _NTO_CHF_UNBLOCK stays blocked, and its server gets an unblock pulse. If ntime
- * is null, the call doesn't wait in these states. _NTO_TIMEOUT_JOIN ends the next pthread_join. With
- * TIMER_ABSTIME in flags, *ntime is a time of the clock id. flags 0 removes the timeout. *otime gets the
- * timeout that is replaced, or 0. EINVAL: no such state, another event than SIGEV_UNBLOCK, another clock than
- * CLOCK_MONOTONIC and CLOCK_REALTIME. */
+ * is null, the call doesn't wait in these states. The next call is a call of this header or a function that
+ * the states name; each of them uses up the timeout, whether it waits or not. With TIMER_ABSTIME in flags,
+ * *ntime is a time of the clock id. flags 0 removes the timeout. *otime gets the timeout that is replaced, or
+ * 0. EINVAL: no such state, another event than SIGEV_UNBLOCK, another clock than CLOCK_MONOTONIC and
+ * CLOCK_REALTIME. */
 int TimerTimeout(clockid_t id, int flags, const struct sigevent *notify, const uint64_t *ntime, uint64_t *otime);
 int TimerTimeout_r(clockid_t id, int flags, const struct sigevent *notify, const uint64_t *ntime, uint64_t *otime);
 
@@ -391,16 +379,22 @@ struct _thread_name {
 #define _NTO_TCTL_IO_PRIV 2
 #define _NTO_TCTL_IO_LEVEL 3
 #define _NTO_TCTL_RUNMASK 4
-#define _NTO_TCTL_NAME 11 /* data is a struct _thread_name */
+#define _NTO_TCTL_RUNMASK_GET_AND_SET 5 /* data is an unsigned: the new mask, and then the old one */
+#define _NTO_TCTL_NAME 11               /* data is a struct _thread_name */
+#define _NTO_TCTL_THREADS_HOLD 12       /* these four fail with ENOTSUP: no thread stops another one */
+#define _NTO_TCTL_THREADS_CONT 13
+#define _NTO_TCTL_ONE_THREAD_HOLD 14
+#define _NTO_TCTL_ONE_THREAD_CONT 15
 
-/* Controls the calling thread. EINVAL: another command; EFAULT: a name's data are null; E2BIG: a name of over
- * 100 bytes. */
+/* Controls the calling thread. A mask of _NTO_TCTL_RUNMASK_GET_AND_SET is kept for the thread, and changes
+ * nothing. EINVAL: another command; EFAULT: the data of a name or of a mask are null; E2BIG: a name of over
+ * 100 bytes; ENOTSUP. */
 int ThreadCtl(int cmd, void *data);
 int ThreadCtl_r(int cmd, void *data);
 
-/* SchedSet sets the priority of a thread (0: the caller). SchedGet gets it, and returns the policy that was
- * last set, or SCHED_RR. A tid may also be the result of pthread_self. ESRCH: another process, or no such
- * thread; EINVAL, EFAULT. */
+/* SchedSet sets the priority of a thread (0: the caller). With SCHED_ADJTOHEAD or SCHED_ADJTOTAIL it changes
+ * nothing. SchedGet gets the priority, and returns the policy that was last set, or SCHED_RR. A tid may also
+ * be the result of pthread_self. ESRCH: another process, or no such thread; EINVAL, EFAULT. */
 int SchedSet(pid_t pid, int tid, int policy, const struct sched_param *param);
 int SchedSet_r(pid_t pid, int tid, int policy, const struct sched_param *param);
 int SchedGet(pid_t pid, int tid, struct sched_param *param);

@@ -17,7 +17,7 @@
 #define SIGEV_UNBLOCK 0x6e71
 #define SIGEV_SIGNAL_CODE 0x6e72
 #define SIGEV_SIGNAL_THREAD 0x6e73
-#define SIGEV_INTR 0x6e74 /* no call here accepts it, since there are no interrupts */
+#define SIGEV_INTR 0x6e74 /* only InterruptAttachEvent accepts it */
 
 /* The codes that a program's own signals may have. */
 #define SI_MINAVAIL (-128)
