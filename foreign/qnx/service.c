@@ -59,8 +59,8 @@ static bool has_work(const struct task *t) {
     return given || has_expired() || has_event();
 }
 
-/* The thread in an explored run. It begins when there is work, without a choice, and its pulses are calls like others.
- */
+/* The thread in an explored run. It begins when there is work, without a choice. Its pulses are calls like
+ * others. */
 _Noreturn static void serve_explored(void) {
     begin_task(&tasks[SERVICE]);
     look_away();
