@@ -6,7 +6,8 @@ use crate::names_fault::{NamesFault, NamesRead};
 use qbase::errno;
 use qbase::errno::Errno;
 use qmodel::kind::LISTED;
-use qscript_text::grammar::{FLAGS, Form, OperandKind, errno_of};
+use qscript_text::fault::LineFault;
+use qscript_text::grammar::{FLAGS, Form, OperandKind, errno_of, fault_of};
 use qscript_text::lexing::token::{Token, TokenKind};
 use qscript_text::near::{near_call, quotation};
 use qscript_text::place::fault_at;
@@ -36,18 +37,40 @@ pub fn form_meant(alloc: Global, word: &[u8]) -> Result<Option<Form>, AllocError
     Ok(None)
 }
 
-/// Returns a word that names no call, with the call that it may be meant to name. `form_meant` finds this
-/// call, or it is the call with the nearest name.
+/// Returns whether a word is a call of another language that takes time.
+pub fn is_clock_word(alloc: Global, word: &[u8]) -> Result<bool, AllocError> {
+    let plain = lowercase(alloc, word)?;
+    match plain.as_slice() {
+        b"wait" | b"sleep" | b"delay" | b"timeout" | b"timertimeout" => Ok(true),
+        _ => Ok(false),
+    }
+}
+
+/// Returns the call that a word may be meant to name, here or in another language. The word isn't QNX's name
+/// of a call.
+fn call_meant(alloc: Global, word: &[u8]) -> Result<MeantCall, AllocError> {
+    if is_clock_word(alloc, word)? {
+        return Ok(MeantCall::NoClock);
+    }
+    if is(word, "expect") {
+        return Ok(MeantCall::Result);
+    }
+    if is(word, "close") {
+        return Ok(MeantCall::Close);
+    }
+    match near_call(alloc, quotation(word).as_bytes())? {
+        Some(near) => Ok(MeantCall::Near(near)),
+        None => Ok(MeantCall::Unknown),
+    }
+}
+
+/// Returns a word that names no call, with the call that it may be meant to name.
 pub fn unknown_call(alloc: Global, bytes: &[u8]) -> Result<UnknownCall, AllocError> {
-    let word = quotation(bytes);
     let meant = match form_meant(alloc, bytes)? {
         Some(form) => MeantCall::Other(form.word),
-        None => match near_call(alloc, word.as_bytes())? {
-            Some(near) => MeantCall::Near(near),
-            None => MeantCall::Unknown,
-        },
+        None => call_meant(alloc, bytes)?,
     };
-    let word = Word::of(alloc, word)?;
+    let word = Word::of(alloc, quotation(bytes))?;
     Ok(UnknownCall { word, meant })
 }
 
@@ -109,13 +132,47 @@ pub fn operand_hint(
     slot: OperandKind,
     word: &[u8],
 ) -> Result<Option<OperandHint>, AllocError> {
+    if let Some((sign, front)) = sign_after(word) {
+        return sign_hint(alloc, slot, sign, front);
+    }
     match slot {
         OperandKind::Flags => Ok(flags_meant(word).map(OperandHint::Number)),
-        OperandKind::ErrorCode => Ok(code_meant(word).map(OperandHint::Number)),
+        OperandKind::ErrorCode | OperandKind::Status => {
+            Ok(code_meant(word).map(OperandHint::Number))
+        }
         OperandKind::Message | OperandKind::ReplyBuffer | OperandKind::Buffer | OperandKind::Data =>
             { plain_bytes_hint(alloc, word) }
         _ => Ok(None),
     }
+}
+
+/// Returns the sign after a word, as other languages have it after an operand, and the word before the sign.
+fn sign_after(word: &[u8]) -> Option<(&'static str, &[u8])> {
+    match word {
+        [front @ .., b';'] => Some((";", front)),
+        [front @ .., b','] => Some((",", front)),
+        _ => None,
+    }
+}
+
+/// Returns the hint about a sign after a word, if the word is valid without the sign, or is one digit of a
+/// byte.
+fn sign_hint(
+    alloc: Global,
+    slot: OperandKind,
+    sign: &'static str,
+    front: &[u8],
+) -> Result<Option<OperandHint>, AllocError> {
+    if front.is_empty() || front.len() > MOST_LETTERS {
+        return Ok(None);
+    }
+    let zero = match (fault_of(alloc, slot, front)?, front) {
+        (None, _) => "",
+        (Some(LineFault::BadBytes), [digit]) if digit.is_ascii_hexdigit() => "0",
+        _ => return Ok(None),
+    };
+    let word = Word::of(alloc, quotation(front))?;
+    Ok(Some(OperandHint::Sign { sign, zero, word }))
 }
 
 /// QNX's errors with their names and numbers, as servers use them in replies. They are from the front of its
@@ -195,6 +252,10 @@ fn plain_bytes_hint(alloc: Global, word: &[u8]) -> Result<Option<OperandHint>, A
         [b'0', b'x' | b'X', ..] => Ok(Some(OperandHint::Prefix)),
         [b'"' | b'\'', ..] => Ok(Some(OperandHint::Quotes)),
         [b'[', count @ .., b']'] => zeros_hint(alloc, count),
+        [b'0'] => Ok(Some(OperandHint::Zero)),
+        [digit] if digit.is_ascii_digit() => {
+            Ok(Some(OperandHint::Digit(Word::of(alloc, quotation(word))?)))
+        }
         _ if is_decimal(word) => zeros_hint(alloc, word),
         _ if word.contains(&b'x') => Ok(equal_hint(word)),
         _ => letters_hint(alloc, word),
@@ -223,7 +284,7 @@ fn equal_hint(word: &[u8]) -> Option<OperandHint> {
     }
 }
 
-/// The most letters of a word that are rewritten as bytes.
+/// The most letters of a word that are rewritten, as bytes or without a sign.
 const MOST_LETTERS: usize = 16;
 
 /// Returns the hint about a word of letters. At least one of the letters isn't a hexadecimal digit.

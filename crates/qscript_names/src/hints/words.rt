@@ -17,12 +17,22 @@ pub enum OperandHint {
     Quotes,
     /// A decimal number with these digits, which may be meant as so many bytes of zero.
     Zeros(Word),
+    /// The digit 0, which may be meant as a byte, or as no bytes.
+    Zero,
+    /// Another decimal digit, which may be meant as a byte, or as so many bytes of zero.
+    Digit(Word),
     /// Equal bytes that don't have two digits.
     ByteDigits,
     /// Too many equal bytes.
     TooManyBytes,
     /// Letters that aren't hexadecimal digits.
     Letters(Word),
+    /// A sign after a word, and the digit 0 that the word lacks, or nothing.
+    Sign {
+        sign: &'static str,
+        zero: &'static str,
+        word: Word,
+    },
 }
 
 impl fmt::Display for OperandHint {
@@ -34,6 +44,11 @@ impl fmt::Display for OperandHint {
             OperandHint::Zeros(digits) => {
                 write!(f, "; for {digits} bytes of zero write {digits}x00")
             }
+            OperandHint::Zero => f.write_str("; write 00 for the byte 0, or - for no bytes"),
+            OperandHint::Digit(digit) => write!(
+                f,
+                "; write 0{digit} for the byte {digit}, or {digit}x00 for {digit} bytes of zero"
+            ),
             OperandHint::ByteDigits => f.write_str("; write the two digits of one byte after x"),
             OperandHint::TooManyBytes => f.write_str("; write at most 4,096"),
             OperandHint::Letters(letters) => {
@@ -42,6 +57,9 @@ impl fmt::Display for OperandHint {
                     write!(f, "{byte:02x}")?;
                 }
                 Ok(())
+            }
+            OperandHint::Sign { sign, zero, word } => {
+                write!(f, "; no '{sign}': write {zero}{word}")
             }
         }
     }
@@ -118,6 +136,9 @@ impl ExtraHint {
     }
 }
 
+/// The advice about a word that would take time.
+pub const NO_CLOCK: &str = "a script has no clock: another thread makes 'unblock'";
+
 /// The call that a word may be meant to name.
 #[derive(Clone, Copy)]
 pub enum MeantCall {
@@ -125,6 +146,12 @@ pub enum MeantCall {
     Other(&'static str),
     /// The call whose name is nearest to the word.
     Near(&'static str),
+    /// It would take time, which no script has.
+    NoClock,
+    /// None: it begins an expected result.
+    Result,
+    /// The call that ends a connection, or the one that ends a channel.
+    Close,
     /// None is near.
     Unknown,
 }
@@ -144,6 +171,13 @@ impl fmt::Display for UnknownCall {
         match meant {
             MeantCall::Other(name) => write!(f, "write '{name}'"),
             MeantCall::Near(name) => write!(f, "did you mean '{name}'?"),
+            MeantCall::NoClock => f.write_str(NO_CLOCK),
+            MeantCall::Result => {
+                f.write_str("expected results need a file NAME.names, as CALL -> ok")
+            }
+            MeantCall::Close => {
+                f.write_str("write 'detach' for a connection, or 'destroy' for a channel")
+            }
             MeantCall::Unknown => {
                 f.write_str("the calls are")?;
                 for kind in &LISTED {
