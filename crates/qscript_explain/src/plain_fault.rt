@@ -1,7 +1,9 @@
 //! Unproved: words and layout. The faults of the lines of plain scripts, with their hints, and their words.
 
 use crate::odd_buffer::OddBuffer;
-use qscript_names::hints::words::{ExpectedOperand, ExtraHint, OperandHint, UnknownCall};
+use qscript_names::hints::words::{
+    ExpectedOperand, ExtraHint, NO_CLOCK, OperandHint, UnknownCall,
+};
 use qscript_text::grammar::Form;
 use qscript_text::reading::line::MOST_BYTES;
 use qscript_text::text_fault::{ByteHint, OperandCount};
@@ -21,10 +23,16 @@ pub enum PlainFault {
     NoCaller(Form),
     /// A first word that is near to `thread`.
     MisspeltThread(Word),
+    /// The number of a thread, with a colon after it.
+    Colon(u8),
+    /// A first word that would take time.
+    NoClock,
     /// A first word that isn't a caller.
     BadCaller(Option<NamesHint>),
     /// A line with only a caller.
     NoCall,
+    /// A line has an expected result.
+    Expectation,
     /// A line has too few or too many operands.
     Operands(OperandCount, SuperfluousWord),
     Call(UnknownCall),
@@ -103,7 +111,12 @@ impl fmt::Display for PlainFault {
                     "expected 'thread', or the thread that makes a call, a number from 0 to 255{hint}"
                 )
             }
+            PlainFault::NoClock => f.write_str(NO_CLOCK),
             PlainFault::NoCall => f.write_str("expected a call: THREAD CALL OPERANDS"),
+            PlainFault::Expectation => {
+                let hint = NamesHint.words();
+                write!(f, "a plain script expects no results{hint}")
+            }
             PlainFault::Operands(count, hints) => write!(f, "{count}{hints}"),
             PlainFault::Call(call) => write!(f, "{call}"),
             PlainFault::Buffer(buffer) => write!(f, "{buffer}"),
@@ -116,6 +129,12 @@ impl PlainFault {
     /// Writes a fault of a thread.
     fn fmt_thread<W: fmt::Write>(&self, f: &mut fmt::Formatter<W>) -> fmt::Result {
         match self {
+            PlainFault::Colon(thread) => {
+                write!(
+                    f,
+                    "expected the thread that makes a call, a number from 0 to 255: write {thread} without ':'"
+                )
+            }
             PlainFault::DoubleThread { thread, line } => {
                 write!(f, "thread {thread} has line {line} already")
             }

@@ -53,7 +53,7 @@ fn call_meant(alloc: Global, word: &[u8]) -> Result<MeantCall, AllocError> {
         return Ok(MeantCall::NoClock);
     }
     if is(word, "expect") {
-        return Ok(MeantCall::Result);
+        return Ok(MeantCall::Expectation);
     }
     if is(word, "close") {
         return Ok(MeantCall::Close);
@@ -132,8 +132,9 @@ pub fn operand_hint(
     slot: OperandKind,
     word: &[u8],
 ) -> Result<Option<OperandHint>, AllocError> {
-    if let Some((sign, front)) = sign_after(word) {
-        return sign_hint(alloc, slot, sign, front);
+    let hint = sign_hint(alloc, slot, word)?;
+    if hint.is_some() {
+        return Ok(hint);
     }
     match slot {
         OperandKind::Flags => Ok(flags_meant(word).map(OperandHint::Number)),
@@ -155,14 +156,16 @@ fn sign_after(word: &[u8]) -> Option<(&'static str, &[u8])> {
     }
 }
 
-/// Returns the hint about a sign after a word, if the word is valid without the sign, or is one digit of a
+/// Returns the hint about the sign after a word, if the word is valid without the sign, or is one digit of a
 /// byte.
 fn sign_hint(
     alloc: Global,
     slot: OperandKind,
-    sign: &'static str,
-    front: &[u8],
+    word: &[u8],
 ) -> Result<Option<OperandHint>, AllocError> {
+    let Some((sign, front)) = sign_after(word) else {
+        return Ok(None);
+    };
     if front.is_empty() || front.len() > MOST_LETTERS {
         return Ok(None);
     }

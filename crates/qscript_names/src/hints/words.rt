@@ -149,7 +149,7 @@ pub enum MeantCall {
     /// It would take time, which no script has.
     NoClock,
     /// None: it begins an expected result.
-    Result,
+    Expectation,
     /// The call that ends a connection, or the one that ends a channel.
     Close,
     /// None is near.
@@ -172,7 +172,7 @@ impl fmt::Display for UnknownCall {
             MeantCall::Other(name) => write!(f, "write '{name}'"),
             MeantCall::Near(name) => write!(f, "did you mean '{name}'?"),
             MeantCall::NoClock => f.write_str(NO_CLOCK),
-            MeantCall::Result => {
+            MeantCall::Expectation => {
                 f.write_str("expected results need a file NAME.names, as CALL -> ok")
             }
             MeantCall::Close => {
