@@ -1,9 +1,7 @@
 //! Unproved: words and layout. The faults of the lines of plain scripts, with their hints, and their words.
 
 use crate::odd_buffer::OddBuffer;
-use qscript_names::hints::words::{
-    ExpectedOperand, ExtraHint, NO_CLOCK, OperandHint, UnknownCall,
-};
+use qscript_names::hints::words::{ExpectedOperand, ExtraHint, NO_CLOCK, OperandHint, UnknownCall};
 use qscript_text::grammar::Form;
 use qscript_text::reading::line::MOST_BYTES;
 use qscript_text::text_fault::{ByteHint, OperandCount};

@@ -215,7 +215,8 @@ pub fn expected_words(sort: OperandKind) -> &'static str {
         OperandKind::Offset => "expected an offset below 2^64",
         OperandKind::Status => "expected a status from -2^63 to 2^63 - 1",
         OperandKind::ErrorCode => "expected an error code from -2^31 to 2^31 - 1",
-        OperandKind::PulseCode => "expected a pulse code from 0 to 127 (the kernel refuses one below 0)",
+        OperandKind::PulseCode =>
+            "expected a pulse code from 0 to 127 (the kernel refuses one below 0)",
         OperandKind::Value => "expected a value from -2^31 to 2^31 - 1",
         OperandKind::Message | OperandKind::ReplyBuffer | OperandKind::Buffer | OperandKind::Data =>
             {
