@@ -1,5 +1,5 @@
 -- The cells and the lists of calls that belong to a kernel under a lock.
-use Rattle.std.specs.Prelude.{◌≡◌, ℕ, List, length, map, slice_index_or, Some}
+use Rattle.std.specs.Prelude.{◌≡◌, ℕ, List, map, slice_index_or, Some}
 use Rattle.qmodel.specs.declared.call.Call.{Call}
 use Rattle.qhandoff.specs.declared.cells.Cells.{Cells}
 use Rattle.qhandoff.specs.Words.{cells_id, thread_id, thread_of}

@@ -219,7 +219,8 @@ impl<K: Tie, L: Log> Shared<K, L> {
         let room = CloseBuffers::new(alloc, many)?;
         let (book, mut spare) = blank.open::<K>();
         let (ports, wakers) = ports_for(&kernel, &threads, seats, asked, &mut spare, &seen)?;
-        let desk = Desk::new(Traced::new(kernel, seat, log, history), heard);
+        let traced = Traced::new(kernel, seat, log, history);
+        let desk = Desk::new(traced, heard);
         let locked = LockState::new(desk, book, spare, room);
         let lock = CachePadded::new(Mutex::new(Box::new(alloc, locked)?));
         let shared = Shared {

@@ -1,6 +1,4 @@
-use Rattle.qshared.proofs.Common.{◌≡◌, ap, sym, subst, ◌∙◌, place, threads_of}
-use Rattle.qshared.proofs.Busy.{never_gives_up}
-use Rattle.qshared.specs.Performing.{called_by}
+use Rattle.qshared.proofs.Common.{ap, sym, ◌∙◌, place, threads_of}
 use Rattle.qshared.proofs.lock_state.LockState.call.Goals as goal
 
 pub call-made-requires : goal.call-made-requires

@@ -61,7 +61,7 @@ returns-clause-same g c =
 
 pub returns-clause-asked : goal.returns-clause-asked
 returns-clause-asked g c =
-    let old = c.args.self.now.asked.calls in
+    let old = c.args.self.now.core.asked.calls in
     elim c.match-first.branch [
       | in-Done+then-is_ok w ↦
           let more = cond (is_call w.make_whole-second.result) (c.args.second ∷ []) [] in

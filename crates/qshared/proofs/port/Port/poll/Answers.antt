@@ -1,4 +1,4 @@
-use Rattle.qshared.proofs.Common.{◌≡◌, Some, ap, sym, subst, ◌∙◌, place, thread_of, threads_of}
+use Rattle.qshared.proofs.Common.{ap, sym, ◌∙◌, place, threads_of}
 use Rattle.qshared.proofs.port.Port.poll.Goals as goal
 
 pub poll-requires : goal.poll-requires

@@ -1,7 +1,7 @@
 use Rattle.qshared.proofs.Common.{◌≡◌, ℕ, [], refl, sym, subst, ap, ◌∙◌, map, length, get_or, ◌++◌, ◌<◌, arith, Some}
 use Rattle.qshared.proofs.Common.{length-map, get_elem?, rises, cells_id, count, taken, took, left_for, AreBelow, IsRow}
 use Rattle.qshared.proofs.Common.{calls_of, AreDue, AreKnown, collected, later_due, of_thread, place, AreSeen}
-use Rattle.qshared.proofs.Common.{RiseByThread, at_map}
+use Rattle.qshared.proofs.Common.{RiseByThread, at_map, kernel_view}
 use Rattle.qrules.proofs.Words.Facts.{threads_of}
 use Rattle.qhandoff.specs.Words as cells
 use Rattle.qshared.proofs.Deliveries.{left_all, left_below, left_length, left_of, left_rises, left_told}
@@ -63,7 +63,7 @@ returns-clause-rises g c =
     let named = c.into_inner-desk.result.named.0 in
     let h =
     renamed _ g.K.Tie.names.roster _ g.K.Tie.names.cells c.traced.inside.kernel
-    (cells.kernel_view c.traced.inside.seat) (g.L.Log.past c.traced.inside.log)
+    (kernel_view c.traced.inside.seat) (g.L.Log.past c.traced.inside.log)
     (ap roster_of c.traced.view_is ∙ named.0) (ap (λ u. u.cells) c.traced.view_is ∙ named.1) c.traced.invariant.1 in
     let ts = threads_of g.K.Tie.names.roster in
     let long : count c.args.self.cells ≡ length ts = ap (λ y. y.slots) c.args.self.cells_are ∙ sym h.sized
@@ -87,7 +87,7 @@ returns-clause-known g c =
     let named = c.into_inner-desk.result.named.0 in
     let h =
     renamed _ g.K.Tie.names.roster _ g.K.Tie.names.cells c.traced.inside.kernel
-    (cells.kernel_view c.traced.inside.seat) (g.L.Log.past c.traced.inside.log)
+    (kernel_view c.traced.inside.seat) (g.L.Log.past c.traced.inside.log)
     (ap roster_of c.traced.view_is ∙ named.0) (ap (λ u. u.cells) c.traced.view_is ∙ named.1) c.traced.invariant.1 in
     let ts = threads_of g.K.Tie.names.roster in
     let long : count c.args.self.cells ≡ length ts = ap (λ y. y.slots) c.args.self.cells_are ∙ sym h.sized
@@ -111,7 +111,7 @@ returns-clause-due g c =
     let named = c.into_inner-desk.result.named.0 in
     let h =
     renamed _ g.K.Tie.names.roster _ g.K.Tie.names.cells c.traced.inside.kernel
-    (cells.kernel_view c.traced.inside.seat) (g.L.Log.past c.traced.inside.log)
+    (kernel_view c.traced.inside.seat) (g.L.Log.past c.traced.inside.log)
     (ap roster_of c.traced.view_is ∙ named.0) (ap (λ u. u.cells) c.traced.view_is ∙ named.1) c.traced.invariant.1 in
     let past = g.L.Log.past c.traced.inside.log in
     let ts = threads_of g.K.Tie.names.roster in
@@ -154,7 +154,7 @@ returns-clause-lawful g c =
     let named = c.into_inner-desk.result.named.0 in
     let h =
     renamed _ g.K.Tie.names.roster _ g.K.Tie.names.cells c.traced.inside.kernel
-    (cells.kernel_view c.traced.inside.seat) (g.L.Log.past c.traced.inside.log)
+    (kernel_view c.traced.inside.seat) (g.L.Log.past c.traced.inside.log)
     (ap roster_of c.traced.view_is ∙ named.0) (ap (λ u. u.cells) c.traced.view_is ∙ named.1) c.traced.invariant.1 in
     (h.told.lawful, h.told.properties)
 

@@ -1,11 +1,11 @@
-use Rattle.qshared.proofs.Common.{◌≡◌, length, sym, ◌∙◌, ap, refl, subst, inl, inr, arith, Some, with_event, Completion}
+use Rattle.qshared.proofs.Common.{◌≡◌, length, sym, ◌∙◌, ap, refl, subst, inl, inr, arith, Some, with_event}
 use Rattle.qshared.proofs.Common.{cancelled_kernel_view, kernel_id, kernel_view, members_of, threads_of, seat_kept}
-use Rattle.qshared.proofs.Common.{Extends, WaitedBefore, KernelView, UnderLock, Busy}
+use Rattle.qshared.proofs.Common.{Extends, WaitedBefore}
 use Rattle.qshared.proofs.Common.{calls_of, place}
 use Rattle.qshared.proofs.Common.{AnswersAtTraces, matches_down, matches_made, matches_roster}
 use Rattle.qshared.proofs.Turns.{still_waited}
 use Rattle.qshared.proofs.Places.{seat_at_place}
-use Rattle.qshared.proofs.Keeps.{is_known, is_shut, is_pending, is_busy, free, same_kernel_view, held_after, apart, under}
+use Rattle.qshared.proofs.Keeps.{is_known, is_shut, is_pending, is_busy, free, same_kernel_view, held_after, apart}
 use Rattle.qshared.proofs.Deliveries.{wide_lines}
 use Rattle.qshared.proofs.Keeps.{may_arrive, may_put, performs}
 use Rattle.qshared.proofs.Busy.{made_busy, other_error}
