@@ -127,7 +127,7 @@ impl ForeignWord {
         match self {
             ForeignWord::Result => "write the result after '->', in the line of its call",
             ForeignWord::Control => "a script has no 'if' and no loop: write each call",
-            ForeignWord::Clock => "a script has no clock: another thread makes 'unblock'",
+            ForeignWord::Clock => NO_CLOCK,
             ForeignWord::Is => "did you mean 'is'?",
         }
     }
