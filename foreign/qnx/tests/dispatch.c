@@ -227,15 +227,26 @@ static void attach_errors(dispatch_t *dpp) {
     fails(message_detach(NULL, FIRST, LAST, 0), EINVAL);
     fails(pulse_attach(NULL, 0, 1, note_pulse, NULL), EINVAL);
     fails(pulse_attach(dpp, 0, 1, NULL, NULL), EINVAL);
-    fails(pulse_attach(dpp, 0, 128, note_pulse, NULL), EINVAL);
-    fails(pulse_attach(dpp, 0, -129, note_pulse, NULL), EINVAL);
     fails(pulse_attach(dpp, 0x100, 1, note_pulse, NULL), EINVAL);
     for (int code = 0; code <= _PULSE_CODE_MAXAVAIL; code++)
-        check(pulse_attach(dpp, MSG_FLAG_ALLOC_PULSE, 0, note_pulse, NULL) == code);
+        check(pulse_attach(dpp, MSG_FLAG_ALLOC_PULSE, -64, note_pulse, NULL) == code);
     fails(pulse_attach(dpp, MSG_FLAG_ALLOC_PULSE, 0, note_pulse, NULL), EAGAIN);
     fails(pulse_attach(dpp, 0, 5, note_pulse, NULL), EINVAL);
     fails(pulse_detach(dpp, -9, 0), EINVAL);
     fails(pulse_detach(NULL, 1, 0), EINVAL);
+}
+
+/* A code is the program's, or one that the kernel has by name. */
+static void attach_codes(void) {
+    dispatch_t *dpp = dispatch_create();
+    for (int code = -1000; code <= 1000; code++) {
+        int is_code = code >= _PULSE_CODE_RESTART && code <= _PULSE_CODE_MAXAVAIL;
+        int attached = code == _PULSE_CODE_UNBLOCK ? 0 : code; /* not -1, which is an error */
+        errno = 0;
+        check(pulse_attach(dpp, 0, code, note_pulse, NULL) == (is_code ? attached : -1));
+        check(is_code ? pulse_detach(dpp, code, 0) == 0 : errno == EINVAL);
+    }
+    check(dispatch_destroy(dpp) == 0);
 }
 
 void dispatch_errors(void) {
@@ -260,4 +271,5 @@ void dispatch_errors(void) {
     fails(dispatch_handler(ctp), EINVAL); /* it has received nothing */
     dispatch_context_free(ctp);
     check(dispatch_destroy(dpp) == 0);
+    attach_codes();
 }
