@@ -90,6 +90,7 @@ static const struct {
     TEST(logs_in_buffers),
     TEST(spawns),
     TEST(spawn_files),
+    TEST(spawn_of_nothing),
     TEST(spawn_inherits),
     TEST(spawn_lists),
     TEST(spawn_overlays),

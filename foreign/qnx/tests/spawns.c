@@ -127,6 +127,38 @@ void spawns(void) {
     check(unsetenv("WORD") == 0);
 }
 
+static volatile sig_atomic_t children;
+
+static void count_child(int signo) { children += signo == SIGCHLD; }
+
+static void in_path(const char *path, const char *name, int error) {
+    check(setenv("PATH", path, 1) == 0);
+    fails(spawnlp(P_NOWAIT, name, name, NULL), error);
+    check(unsetenv("PATH") == 0);
+    fails(spawnlp(P_NOWAIT, name, name, NULL), ENOENT);
+}
+
+/* A program that can't be run ends no child. */
+void spawn_of_nothing(void) {
+    const char *path = getenv("PATH");
+    char folder[] = "/tmp/spawnsXXXXXX", file[40], *old = strdup(path ? path : "");
+    check(mkdtemp(folder) && snprintf(file, sizeof file, "%s/no_program", folder) > 0);
+    int fd = open(file, O_CREAT | O_WRONLY, 0600);
+    check(old && fd != -1 && close(fd) == 0 && signal(SIGCHLD, count_child) == SIG_DFL);
+    in_path(":/nowhere", "no program", ENOENT);
+    in_path("", "no program", ENOENT);
+    fails(spawnl(P_NOWAIT, "/no/program", "x", NULL), ENOENT);
+    fails(spawnl(P_NOWAIT, "/dev/null/program", "x", NULL), ENOTDIR);
+    check(setenv("PATH", folder, 1) == 0);
+    fails(spawnlp(P_NOWAIT, "no_program", "x", NULL), EACCES);
+    fails(spawnl(P_WAIT, file, "x", NULL), EACCES);
+    check(children == 0 && setenv("PATH", "/nowhere:/bin:/usr/bin:", 1) == 0);
+    ends_with(spawnlp(P_NOWAIT, "sh", "sh", "-c", "exit 3", NULL), 3);
+    check(children == 1 && setenv("PATH", old, 1) == 0 && signal(SIGCHLD, SIG_DFL) != SIG_ERR);
+    check(unlink(file) == 0 && rmdir(folder) == 0);
+    free(old);
+}
+
 /* The forms with lists and arrays, and the modes. */
 void spawn_lists(void) {
     char *environment[] = {"WORD=5", NULL}, **words = script("exit $WORD");

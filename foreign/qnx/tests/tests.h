@@ -71,7 +71,8 @@ void lives(void), crowds(void), echo_1_1(void), echo_40_8(void);
 void interrupts(void), shared_lines(void), interrupt_signals(void), interrupt_waits(void), interrupt_errors(void);
 void sleep_limits(void), used_up(void), semaphore_limits(void), mutex_limits(void), condition_limits(void);
 void logs(void), logs_in_buffers(void);
-void spawns(void), spawn_files(void), spawn_inherits(void), spawn_lists(void), spawn_overlays(void), daemons(void);
+void spawns(void), spawn_files(void), spawn_of_nothing(void), spawn_inherits(void), spawn_lists(void),
+    spawn_overlays(void), daemons(void);
 void daemon_with_channels(void);
 void client_info(void), pauses(void), pools_of_pulses(void), devices(void), small_headers(void);
 void dispatched(void), dispatched_others(void), dispatched_pulses(void), dispatched_names(void), dispatch_ends(void),
