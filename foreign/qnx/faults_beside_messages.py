@@ -54,7 +54,7 @@ FAULTS = [
      [("interrupts.c", "(a && a->line == intr)", "a")]),
     ("any line", "interrupt_errors", PLAIN,
      [("interrupts.c", "return intr >= 0 && intr < LINES;", "return intr >= 0 && intr <= LINES;")]),
-    ("an interrupt of a thread that has ended", "interrupt_waits", ASAN,
+    ("an interrupt of a thread that has ended", "interrupt_waits", PLAIN,
      [("interrupts.c", "seats[a->tid].use == TAKEN && seats[a->tid].ticket == a->ticket;", "a->tid;")]),
     ("InterruptWait is posted twice", "interrupt_waits", PLAIN,
      [("interrupts.c", "    else if (is_there && !a->waiting->is_ready) {", "    else if (is_there) {")]),

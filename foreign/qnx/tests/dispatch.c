@@ -68,7 +68,8 @@ void dispatched(void) {
     check(status_of(ctp, LAST, 3000) == LAST && got.size == 3000 && got.value);
     check(status_of(ctp, LAST, 3001) == LAST && got.size == 3000 && !got.value);
     check(status_of(ctp, FIRST - 1, 2) == -ENOSYS && status_of(ctp, LAST + 1, 2) == -ENOSYS);
-    check(status_of(ctp, _IO_CONNECT, 2) == -ENOSYS && status_of(ctp, FIRST, 1) == -ENOSYS);
+    check(status_of(ctp, _IO_CONNECT, 2) == -ENOSYS);
+    check(status_of(ctp, FIRST, 2) == FIRST && status_of(ctp, FIRST, 1) == -ENOSYS); /* it has no whole type */
     attr.msg_max_size = 3500;
     check(message_attach(dpp, &attr, 1, 1, note_message, NULL) == 0); /* the context grows */
     check(status_of(ctp, LAST, 3500) == LAST && got.size == 3500 && got.value);

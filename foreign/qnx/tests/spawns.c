@@ -54,12 +54,12 @@ static void has_signals(const char *line, const int map[], const struct inherita
 
 /* A child has the files of the map, in the map's order, and no other. */
 void spawn_files(void) {
-    int out[2], in[2], extra = open("/dev/null", O_RDONLY);
-    check(pipe(out) == 0 && pipe(in) == 0 && extra != -1 && write(in[1], "word\n", 5) == 5);
+    int out[2], in[2], extra = fcntl(2, F_DUPFD, 40);
+    check(pipe(out) == 0 && pipe(in) == 0 && extra == 40 && write(in[1], "word\n", 5) == 5);
     int map[3] = {in[0], out[1], 2};
-    prints("read x; echo $x; cat /dev/null; test ! -e /proc/$$/fd/3", 3, map, NULL, out[0], "word\n");
+    prints("read x; echo $x; cat /dev/null; test ! -e /proc/$$/fd/40", 3, map, NULL, out[0], "word\n");
     int crossed[4] = {0, out[1], 2, 1}; /* the child's 1 and 3 are the caller's out[1] and 1 */
-    prints("test -e /proc/$$/fd/3 && test ! -e /proc/$$/fd/4 && echo yes", 4, crossed, NULL, out[0], "yes\n");
+    prints("test -e /proc/$$/fd/3 && test ! -e /proc/$$/fd/40 && echo yes", 4, crossed, NULL, out[0], "yes\n");
     int closed[3] = {SPAWN_FDCLOSED, out[1], 2};
     prints("test -e /proc/$$/fd/0 && echo open || echo closed", 3, closed, NULL, out[0], "closed\n");
     int missing[2] = {0, 999};
