@@ -202,6 +202,8 @@ FAULTS = [
      [("pools.c", "        else if (error != EINTR && error != ETIMEDOUT) return;", "        else if (error == EDOM) return;")]),
     ("a context isn't freed", "pools", PLAIN,
      [("pools.c", "    if (context_free && w->context) context_free(w->context);\n", "    (void)context_free;\n")]),
+    ("a pool keeps no attributes", "pool_ends", PLAIN,
+     [("pools.c", "        pool->attr.attr = &pool->threads;\n", "")]),
     ("a pool of any numbers", "pool_errors", PLAIN,
      [("pools.c", "    return attr->lo_water <= attr->hi_water && attr->hi_water <= attr->maximum && attr->hi_water;",
        "    return attr->hi_water;")]),

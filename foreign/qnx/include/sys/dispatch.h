@@ -187,7 +187,7 @@ typedef struct _thread_pool_attr {
     int (*handler_func)(THREAD_POOL_PARAM_T *ctp);
     THREAD_POOL_PARAM_T *(*context_alloc)(THREAD_POOL_HANDLE_T *handle);
     void (*context_free)(THREAD_POOL_PARAM_T *ctp);
-    pthread_attr_t *attr; /* of the threads, or null; it stays the program's */
+    pthread_attr_t *attr; /* of the threads, or null; thread_pool_create copies it */
     unsigned short lo_water;
     unsigned short increment;
     unsigned short hi_water;
