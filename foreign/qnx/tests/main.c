@@ -40,6 +40,7 @@ static const struct {
     TEST(clocks),
     TEST(timeouts),
     TEST(join_timeouts),
+    TEST(timed_joins),
     TEST(timeout_errors),
     TEST(priorities),
     TEST(inherited),

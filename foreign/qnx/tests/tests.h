@@ -61,7 +61,7 @@ void codes(void), values(void), notes(void), many_notes(void), pulse_errors(void
 void events(void), event_errors(void), verified(void);
 void pulse_timers(void), host_timers(void), timer_errors(void), timer_calls(void), set_anew(void), file_0(void);
 void clocks(void);
-void timeouts(void), join_timeouts(void), timeout_errors(void);
+void timeouts(void), join_timeouts(void), timed_joins(void), timeout_errors(void);
 void priorities(void), inherited(void), policies(void), attributes(void), controls(void);
 void seats(void), reserved(void), deaths(void), first_calls(void), forks(void), delays(void), created(void);
 void sleepers(void);

@@ -256,6 +256,7 @@ NEUTRINO_MISSING(resmgr_msgwritev);
 NEUTRINO_MISSING(resmgr_open_bind);
 NEUTRINO_MISSING(resmgr_pathname);
 NEUTRINO_MISSING(resmgr_unbind);
+NEUTRINO_MISSING(select_query);
 NEUTRINO_MISSING(sigwait_attach);
 NEUTRINO_MISSING(sigwait_detach);
 
