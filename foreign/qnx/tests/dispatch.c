@@ -204,7 +204,8 @@ void dispatch_cancelled(void) {
     pthread_t blocked = start(block_for_error, ctp);
     usleep(2000);
     check(pthread_cancel(blocked) == 0 && pthread_join(blocked, &result) == 0 && result == PTHREAD_CANCELED);
-    check(MsgSendPulse(coid, 10, 1, 8) == 0);
+    dispatch_unblock(ctp); /* no thread is in the context, so its next block ends */
+    check(!dispatch_block(ctp) && errno == EINTR && MsgSendPulse(coid, 10, 1, 8) == 0);
     serve_one(ctp);
     check(got.value == 8 && ConnectDetach(coid) == 0);
     dispatch_context_free(ctp);
