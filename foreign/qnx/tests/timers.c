@@ -250,6 +250,12 @@ void join_timeouts(void) {
     check(pthread_join(thread, &value) == 0 && value == (void *)5); /* without a timeout */
 }
 
+static void *go_later(void *go) {
+    usleep(50000);
+    atomic_store((_Atomic int *)go, 1);
+    return NULL;
+}
+
 /* Joins with a limit of their own, which takes the place of a timeout. */
 void timed_joins(void) {
     _Atomic int go = 0;
@@ -267,9 +273,9 @@ void timed_joins(void) {
     check(TimerTimeout(CLOCK_MONOTONIC, 0, NULL, NULL, &real) == 0 && real == 0);
     check(pthread_timedjoin(thread, &value, &wrong) == EINVAL);
     check(pthread_timedjoin_monotonic(thread, &value, &wrong) == EINVAL);
-    atomic_store(&go, 1);
     nsec2timespec(&limit, monotonic + 1000000000000);
-    check(pthread_timedjoin_monotonic(thread, &value, &limit) == 0 && value == (void *)5);
+    pthread_t other = start(go_later, &go);
+    check(pthread_timedjoin_monotonic(thread, &value, &limit) == 0 && value == (void *)5 && result_of(other) == 0);
 }
 
 void timeout_errors(void) {
