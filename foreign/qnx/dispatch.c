@@ -184,13 +184,13 @@ static int free_code(const dispatch_t *dpp) {
 int pulse_attach(dispatch_t *dpp, int flags, int code, handling_function func, void *handle) {
     bool chooses = (unsigned)flags & MSG_FLAG_ALLOC_PULSE;
     if (!dpp || !func || (unsigned)flags & ~MSG_FLAG_ALLOC_PULSE) return fail(EINVAL);
-    if (!chooses && (code < INT8_MIN || code > INT8_MAX)) return fail(EINVAL);
+    if (!chooses && (code < _PULSE_CODE_RESTART || code > _PULSE_CODE_MAXAVAIL)) return fail(EINVAL);
     ordered_mutex_lock(&dpp->lock);
     if (chooses) code = free_code(dpp);
     struct attached_function new = {PULSES, code, code, 0, func, handle};
     int error = chooses && code == -1 ? EAGAIN : add_function(dpp, &new);
     neutrino_pthread_mutex_unlock(&dpp->lock);
-    return error ? fail(error) : code;
+    return error ? fail(error) : code == -1 ? 0 : code;
 }
 
 int pulse_detach(dispatch_t *dpp, int code, int flags) {

@@ -23,6 +23,7 @@ struct _thread_pool {
     pthread_mutex_t lock;
     pthread_cond_t changed; /* a worker has begun or ended */
     thread_pool_attr_t attr;
+    pthread_attr_t threads; /* a copy of the threads' attributes, if attr names them */
     unsigned flags;
     int created, ready, leaving; /* the numbers of all workers, and of those that are ready or leave */
     bool has_started, ends;
@@ -42,6 +43,10 @@ thread_pool_t *thread_pool_create(thread_pool_attr_t *attr, unsigned flags) {
     pthread_cond_init(&pool->changed, NULL);
     pool->attr = *attr;
     if (!pool->attr.increment) pool->attr.increment = 1;
+    if (attr->attr) {
+        pool->threads = *attr->attr;
+        pool->attr.attr = &pool->threads;
+    }
     pool->flags = flags;
     return pool;
 }

@@ -33,6 +33,28 @@ static int wrong_spawn(const struct executable *executable, int fd_count, const 
     return inherit && inherit->flags & SPAWN_SETND && inherit->nd != ND_LOCAL_NODE ? ESRCH : 0;
 }
 
+static int wrong_program(const char *path) { return faccessat(AT_FDCWD, path, X_OK, AT_EACCESS) ? errno : 0; }
+
+/* Returns an errno if there is no such program, or 0. The host finds that out in a child, whose end would signal
+ * SIGCHLD. */
+static int missing_program(const struct executable *executable) {
+    const char *folder = getenv("PATH"), *name = executable->path;
+    int error = ENOENT;
+    if (!executable->is_searched || strchr(name, '/')) return wrong_program(name);
+    if (!folder) folder = "/bin:/usr/bin";
+    for (bool is_last = false; !is_last;) {
+        char whole[PATH_MAX];
+        int length = (int)strcspn(folder, ":");
+        snprintf(whole, sizeof whole, "%.*s%s%s", length, folder, length ? "/" : "", name);
+        int wrong = wrong_program(whole);
+        if (!wrong) return 0;
+        if (wrong == EACCES) error = EACCES;
+        is_last = !folder[length];
+        folder += length + !is_last;
+    }
+    return error;
+}
+
 static void close_map(struct file_map *map) {
     for (int at = 0; at < map->count; at++) {
         if (map->copies[at] != -1) close(map->copies[at]);
@@ -118,9 +140,10 @@ static pid_t spawn_executable(struct executable executable, int fd_count, const 
     struct file_map map;
     unsigned long flags = inherit ? inherit->flags : 0;
     int error = wrong_spawn(&executable, fd_count, inherit);
-    if (error) return fail(error);
     if (!executable.envp) executable.envp = environ;
     if (flags & SPAWN_SEARCH_PATH) executable.is_searched = true;
+    if (!error) error = missing_program(&executable);
+    if (error) return fail(error);
     pid_t pid = -1;
     error = open_map(&map, fd_count, fd_map);
     if (!error) {

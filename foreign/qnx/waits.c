@@ -111,6 +111,11 @@ int neutrino_sem_timedwait(sem_t *semaphore, const struct timespec *until) {
     return ordered_sem_timedwait(semaphore, until);
 }
 
+int sem_timedwait_monotonic(sem_t *semaphore, const struct timespec *until) {
+    drop_timeout();
+    return neutrino_sem_clockwait(semaphore, CLOCK_MONOTONIC, until);
+}
+
 int neutrino_pthread_mutex_lock(pthread_mutex_t *mutex) {
     struct limit limit = take_limit(_NTO_TIMEOUT_MUTEX);
     return limit.is_set ? ordered_mutex_timedlock(mutex, &limit.until) : ordered_mutex_lock(mutex);
@@ -119,6 +124,11 @@ int neutrino_pthread_mutex_lock(pthread_mutex_t *mutex) {
 int neutrino_pthread_mutex_timedlock(pthread_mutex_t *mutex, const struct timespec *until) {
     drop_timeout();
     return ordered_mutex_timedlock(mutex, until);
+}
+
+int pthread_mutex_timedlock_monotonic(pthread_mutex_t *mutex, const struct timespec *until) {
+    drop_timeout();
+    return neutrino_pthread_mutex_clocklock(mutex, CLOCK_MONOTONIC, until);
 }
 
 int neutrino_pthread_cond_wait(pthread_cond_t *condition, pthread_mutex_t *mutex) {
@@ -136,4 +146,21 @@ int neutrino_pthread_cond_timedwait(pthread_cond_t *condition, pthread_mutex_t *
 int neutrino_pthread_join(pthread_t thread, void **value) {
     struct limit limit = take_limit(_NTO_TIMEOUT_JOIN);
     return ordered_join(thread, value, limit.is_set ? &limit.until : NULL);
+}
+
+static bool is_time(const struct timespec *time) {
+    return time->tv_sec >= 0 && time->tv_nsec >= 0 && time->tv_nsec < 1000000000;
+}
+
+int pthread_timedjoin(pthread_t thread, void **value, const struct timespec *until) {
+    drop_timeout();
+    return is_time(until) ? ordered_join(thread, value, until) : EINVAL;
+}
+
+int pthread_timedjoin_monotonic(pthread_t thread, void **value, const struct timespec *until) {
+    struct timespec left;
+    if (!is_time(until)) return EINVAL;
+    write_left(CLOCK_MONOTONIC, until, &left);
+    struct timespec end = time_after(CLOCK_REALTIME, timespec2nsec(&left));
+    return pthread_timedjoin(thread, value, &end);
 }

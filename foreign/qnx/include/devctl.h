@@ -74,6 +74,7 @@ typedef union {
 int devctl(int filedes, int dcmd, void *dev_data_ptr, size_t n_bytes, int *dev_info_ptr);
 
 NEUTRINO_MISSING(devctlv);
+NEUTRINO_MISSING(posix_devctl);
 
 #ifdef __cplusplus
 }

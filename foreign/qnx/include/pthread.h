@@ -14,7 +14,7 @@
  *   pthread_join, pthread_mutex_lock, pthread_cond_wait
  *                                end with ETIMEDOUT after a TimerTimeout with _NTO_TIMEOUT_JOIN, MUTEX or
  *                                CONDVAR
- *   pthread_mutex_timedlock, pthread_cond_timedwait
+ *   pthread_mutex_timedlock, pthread_cond_timedwait, and the functions with a limit below
  *                                use up such a timeout, and have only their own limit, as under QNX
  *   pthread_setname_np           sets the thread's name in neutrino_show and in a record
  */
@@ -63,6 +63,7 @@
 #ifndef BALSAEUCHRE_QNX_PTHREAD_H
 #define BALSAEUCHRE_QNX_PTHREAD_H
 #include <stdint.h>
+#include <sys/missing.h>
 #ifdef __cplusplus
 extern "C" {
 #endif
@@ -77,6 +78,12 @@ extern "C" {
 int pthread_setname_np(pthread_t thread, const char *name) __THROW;
 int pthread_getname_np(pthread_t thread, char *name, size_t length) __THROW;
 
+/* The limit is a time of CLOCK_REALTIME, or of CLOCK_MONOTONIC in the functions that are named so. They return 0 or
+ * an error: ETIMEDOUT, EINVAL (an invalid time), and the errors of pthread_join and pthread_mutex_lock. */
+int pthread_timedjoin(pthread_t thread, void **value, const struct timespec *until);
+int pthread_timedjoin_monotonic(pthread_t thread, void **value, const struct timespec *until);
+int pthread_mutex_timedlock_monotonic(pthread_mutex_t *mutex, const struct timespec *until);
+
 /* One lock of the program, and threads that sleep on an address under this lock. A signal of the address
  * wakes the thread that has slept longest, and a broadcast wakes all its threads. timedwait ends with
  * ETIMEDOUT after nsec nanoseconds; with nsec 0 it has no limit. The functions return 0 or an error. The
@@ -87,6 +94,9 @@ int pthread_sleepon_wait(const volatile void *addr);
 int pthread_sleepon_timedwait(const volatile void *addr, uint64_t nsec);
 int pthread_sleepon_signal(const volatile void *addr);
 int pthread_sleepon_broadcast(const volatile void *addr);
+
+NEUTRINO_MISSING(pthread_abort);
+NEUTRINO_MISSING(pthread_mutex_wakeup_np);
 
 #ifdef __cplusplus
 }

@@ -11,3 +11,16 @@
 #pragma redefine_extname sem_getvalue neutrino_sem_getvalue
 #endif
 #include_next <semaphore.h>
+#ifndef BALSAEUCHRE_QNX_SEMAPHORE_H
+#define BALSAEUCHRE_QNX_SEMAPHORE_H
+#ifdef __cplusplus
+extern "C" {
+#endif
+
+/* sem_timedwait with a time of CLOCK_MONOTONIC. */
+int sem_timedwait_monotonic(sem_t *semaphore, const struct timespec *until);
+
+#ifdef __cplusplus
+}
+#endif
+#endif

@@ -68,7 +68,8 @@ void dispatched(void) {
     check(status_of(ctp, LAST, 3000) == LAST && got.size == 3000 && got.value);
     check(status_of(ctp, LAST, 3001) == LAST && got.size == 3000 && !got.value);
     check(status_of(ctp, FIRST - 1, 2) == -ENOSYS && status_of(ctp, LAST + 1, 2) == -ENOSYS);
-    check(status_of(ctp, _IO_CONNECT, 2) == -ENOSYS && status_of(ctp, FIRST, 1) == -ENOSYS);
+    check(status_of(ctp, _IO_CONNECT, 2) == -ENOSYS);
+    check(status_of(ctp, FIRST, 2) == FIRST && status_of(ctp, FIRST, 1) == -ENOSYS); /* it has no whole type */
     attr.msg_max_size = 3500;
     check(message_attach(dpp, &attr, 1, 1, note_message, NULL) == 0); /* the context grows */
     check(status_of(ctp, LAST, 3500) == LAST && got.size == 3500 && got.value);
@@ -203,7 +204,8 @@ void dispatch_cancelled(void) {
     pthread_t blocked = start(block_for_error, ctp);
     usleep(2000);
     check(pthread_cancel(blocked) == 0 && pthread_join(blocked, &result) == 0 && result == PTHREAD_CANCELED);
-    check(MsgSendPulse(coid, 10, 1, 8) == 0);
+    dispatch_unblock(ctp); /* no thread is in the context, so its next block ends */
+    check(!dispatch_block(ctp) && errno == EINTR && MsgSendPulse(coid, 10, 1, 8) == 0);
     serve_one(ctp);
     check(got.value == 8 && ConnectDetach(coid) == 0);
     dispatch_context_free(ctp);
@@ -227,15 +229,26 @@ static void attach_errors(dispatch_t *dpp) {
     fails(message_detach(NULL, FIRST, LAST, 0), EINVAL);
     fails(pulse_attach(NULL, 0, 1, note_pulse, NULL), EINVAL);
     fails(pulse_attach(dpp, 0, 1, NULL, NULL), EINVAL);
-    fails(pulse_attach(dpp, 0, 128, note_pulse, NULL), EINVAL);
-    fails(pulse_attach(dpp, 0, -129, note_pulse, NULL), EINVAL);
     fails(pulse_attach(dpp, 0x100, 1, note_pulse, NULL), EINVAL);
     for (int code = 0; code <= _PULSE_CODE_MAXAVAIL; code++)
-        check(pulse_attach(dpp, MSG_FLAG_ALLOC_PULSE, 0, note_pulse, NULL) == code);
+        check(pulse_attach(dpp, MSG_FLAG_ALLOC_PULSE, -64, note_pulse, NULL) == code);
     fails(pulse_attach(dpp, MSG_FLAG_ALLOC_PULSE, 0, note_pulse, NULL), EAGAIN);
     fails(pulse_attach(dpp, 0, 5, note_pulse, NULL), EINVAL);
     fails(pulse_detach(dpp, -9, 0), EINVAL);
     fails(pulse_detach(NULL, 1, 0), EINVAL);
+}
+
+/* A code is the program's, or one that the kernel has by name. */
+static void attach_codes(void) {
+    dispatch_t *dpp = dispatch_create();
+    for (int code = -1000; code <= 1000; code++) {
+        int is_code = code >= _PULSE_CODE_RESTART && code <= _PULSE_CODE_MAXAVAIL;
+        int attached = code == _PULSE_CODE_UNBLOCK ? 0 : code; /* not -1, which is an error */
+        errno = 0;
+        check(pulse_attach(dpp, 0, code, note_pulse, NULL) == (is_code ? attached : -1));
+        check(is_code ? pulse_detach(dpp, code, 0) == 0 : errno == EINVAL);
+    }
+    check(dispatch_destroy(dpp) == 0);
 }
 
 void dispatch_errors(void) {
@@ -260,4 +273,5 @@ void dispatch_errors(void) {
     fails(dispatch_handler(ctp), EINVAL); /* it has received nothing */
     dispatch_context_free(ctp);
     check(dispatch_destroy(dpp) == 0);
+    attach_codes();
 }

@@ -140,11 +140,19 @@ static void *wait_for_interrupt(void *argument) {
     return (void *)(intptr_t)id;
 }
 
+static void *wait_in_vain(void *argument) {
+    (void)argument;
+    raise_line(LINE);
+    set_timeout(_NTO_TIMEOUT_INTR, 20000000);
+    fails(InterruptWait(0, NULL), ETIMEDOUT);
+    return NULL;
+}
+
+/* After its thread has ended, nobody gets an interrupt, not even a thread in the same place. */
 void interrupt_waits(void) {
     int id = (int)result_of(start(wait_for_interrupt, NULL));
-    raise_line(LINE);
     check(InterruptUnmask(LINE, -1) == 1 && InterruptUnmask(LINE, -1) == 0);
-    usleep(20000); /* the thread has ended, so nobody gets the interrupt */
+    result_of(start(wait_in_vain, NULL));
     check(InterruptDetach(id) == 0);
 }
 

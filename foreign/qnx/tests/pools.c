@@ -171,15 +171,23 @@ static void end_channel(void) {
     check(ConnectDetach(coid_of_pool) == 0);
 }
 
+/* A pool of detached threads, whose attributes are gone before it starts. */
+static thread_pool_t *pool_of_detached(thread_pool_attr_t *attr) {
+    static pthread_attr_t detached;
+    check(pthread_attr_init(&detached) == 0);
+    check(pthread_attr_setdetachstate(&detached, PTHREAD_CREATE_DETACHED) == 0);
+    attr->attr = &detached;
+    thread_pool_t *pool = thread_pool_create(attr, 0);
+    check(pthread_attr_destroy(&detached) == 0);
+    memset(&detached, 0x55, sizeof detached);
+    return pool;
+}
+
 /* Threads end if they have no context, or if what they wait for is gone. */
 void pool_ends(void) {
     dispatch_t *dpp = make_server();
     thread_pool_attr_t attr = usual_pool(dpp);
-    pthread_attr_t detached;
-    check(pthread_attr_init(&detached) == 0);
-    check(pthread_attr_setdetachstate(&detached, PTHREAD_CREATE_DETACHED) == 0);
-    attr.attr = &detached;
-    thread_pool_t *pool = thread_pool_create(&attr, 0);
+    thread_pool_t *pool = pool_of_detached(&attr);
     check(thread_pool_start(pool) == EOK);
     until_workers(2);
     end_channel();
@@ -188,10 +196,10 @@ void pool_ends(void) {
     attr.context_alloc = no_context;
     atomic_store(&made, 0);
     atomic_store(&freed, 0);
-    pool = thread_pool_create(&attr, 0);
+    pool = pool_of_detached(&attr);
     check(thread_pool_start(pool) == EOK);
     until_workers(2); /* which have ended without a context to free */
-    check(thread_pool_destroy(pool) == EOK && pthread_attr_destroy(&detached) == 0 && dispatch_destroy(dpp) == 0);
+    check(thread_pool_destroy(pool) == EOK && dispatch_destroy(dpp) == 0);
 }
 
 void pool_errors(void) {

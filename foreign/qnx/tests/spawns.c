@@ -41,11 +41,12 @@ static void prints(const char *text, int count, const int map[], const struct in
     expect_text(file, expected);
 }
 
-/* Prints the last digits of a line of its own status, by sed: a shell would change its signals. */
+/* Prints the digit of SIGUSR1 and SIGUSR2 in a line of its own status, by sed: a shell would change its signals. Who
+ * runs the tests may ignore other signals. */
 static void has_signals(const char *line, const int map[], const struct inheritance *inherit, int file,
                         const char *expected) {
     char text[60];
-    snprintf(text, sizeof text, "s/%s:.*\\(...\\)$/\\1/p", line);
+    snprintf(text, sizeof text, "s/%s:.*\\(.\\)..$/\\1/p", line);
     char *words[] = {"sed", "-n", text, "/proc/self/status", NULL};
     ends_with(spawnp("sed", 3, map, inherit, words, NULL), 0);
     expect_text(file, expected);
@@ -53,12 +54,12 @@ static void has_signals(const char *line, const int map[], const struct inherita
 
 /* A child has the files of the map, in the map's order, and no other. */
 void spawn_files(void) {
-    int out[2], in[2], extra = open("/dev/null", O_RDONLY);
-    check(pipe(out) == 0 && pipe(in) == 0 && extra != -1 && write(in[1], "word\n", 5) == 5);
+    int out[2], in[2], extra = fcntl(2, F_DUPFD, 40);
+    check(pipe(out) == 0 && pipe(in) == 0 && extra == 40 && write(in[1], "word\n", 5) == 5);
     int map[3] = {in[0], out[1], 2};
-    prints("read x; echo $x; cat /dev/null; test ! -e /proc/$$/fd/3", 3, map, NULL, out[0], "word\n");
+    prints("read x; echo $x; cat /dev/null; test ! -e /proc/$$/fd/40", 3, map, NULL, out[0], "word\n");
     int crossed[4] = {0, out[1], 2, 1}; /* the child's 1 and 3 are the caller's out[1] and 1 */
-    prints("test -e /proc/$$/fd/3 && test ! -e /proc/$$/fd/4 && echo yes", 4, crossed, NULL, out[0], "yes\n");
+    prints("test -e /proc/$$/fd/3 && test ! -e /proc/$$/fd/40 && echo yes", 4, crossed, NULL, out[0], "yes\n");
     int closed[3] = {SPAWN_FDCLOSED, out[1], 2};
     prints("test -e /proc/$$/fd/0 && echo open || echo closed", 3, closed, NULL, out[0], "closed\n");
     int missing[2] = {0, 999};
@@ -75,11 +76,11 @@ static void inherits_signals(int out[2]) {
     sigemptyset(&inherit.sigdefault);
     sigaddset(&inherit.sigdefault, SIGUSR2);
     check(signal(SIGUSR2, SIG_IGN) != SIG_ERR);
-    has_signals("SigBlk", map, &inherit, out[0], "200\n");
-    has_signals("SigIgn", map, &inherit, out[0], "000\n");
+    has_signals("SigBlk", map, &inherit, out[0], "2\n");
+    has_signals("SigIgn", map, &inherit, out[0], "0\n");
     inherit.flags = 0;
-    has_signals("SigBlk", map, &inherit, out[0], "000\n");
-    has_signals("SigIgn", map, &inherit, out[0], "800\n");
+    has_signals("SigBlk", map, &inherit, out[0], "0\n");
+    has_signals("SigIgn", map, &inherit, out[0], "8\n");
     check(signal(SIGUSR2, SIG_DFL) == SIG_IGN);
 }
 
@@ -124,6 +125,38 @@ void spawns(void) {
     fails(spawnl(17, shell, shell, "-c", "true", NULL), EINVAL);
     fails(spawnl(P_WAIT, "no such program", "x", NULL), ENOENT);
     check(unsetenv("WORD") == 0);
+}
+
+static volatile sig_atomic_t children;
+
+static void count_child(int signo) { children += signo == SIGCHLD; }
+
+static void in_path(const char *path, const char *name, int error) {
+    check(setenv("PATH", path, 1) == 0);
+    fails(spawnlp(P_NOWAIT, name, name, NULL), error);
+    check(unsetenv("PATH") == 0);
+    fails(spawnlp(P_NOWAIT, name, name, NULL), ENOENT);
+}
+
+/* A program that can't be run ends no child. */
+void spawn_of_nothing(void) {
+    const char *path = getenv("PATH");
+    char folder[] = "/tmp/spawnsXXXXXX", file[40], *old = strdup(path ? path : "");
+    check(mkdtemp(folder) && snprintf(file, sizeof file, "%s/no_program", folder) > 0);
+    int fd = open(file, O_CREAT | O_WRONLY, 0600);
+    check(old && fd != -1 && close(fd) == 0 && signal(SIGCHLD, count_child) == SIG_DFL);
+    in_path(":/nowhere", "no program", ENOENT);
+    in_path("", "no program", ENOENT);
+    fails(spawnl(P_NOWAIT, "/no/program", "x", NULL), ENOENT);
+    fails(spawnl(P_NOWAIT, "/dev/null/program", "x", NULL), ENOTDIR);
+    check(setenv("PATH", folder, 1) == 0);
+    fails(spawnlp(P_NOWAIT, "no_program", "x", NULL), EACCES);
+    fails(spawnl(P_WAIT, file, "x", NULL), EACCES);
+    check(children == 0 && setenv("PATH", "/nowhere:/bin:/usr/bin:", 1) == 0);
+    ends_with(spawnlp(P_NOWAIT, "sh", "sh", "-c", "exit 3", NULL), 3);
+    check(children == 1 && setenv("PATH", old, 1) == 0 && signal(SIGCHLD, SIG_DFL) != SIG_ERR);
+    check(unlink(file) == 0 && rmdir(folder) == 0);
+    free(old);
 }
 
 /* The forms with lists and arrays, and the modes. */

@@ -61,7 +61,7 @@ void codes(void), values(void), notes(void), many_notes(void), pulse_errors(void
 void events(void), event_errors(void), verified(void);
 void pulse_timers(void), host_timers(void), timer_errors(void), timer_calls(void), set_anew(void), file_0(void);
 void clocks(void);
-void timeouts(void), join_timeouts(void), timeout_errors(void);
+void timeouts(void), join_timeouts(void), timed_joins(void), timeout_errors(void);
 void priorities(void), inherited(void), policies(void), attributes(void), controls(void);
 void seats(void), reserved(void), deaths(void), first_calls(void), forks(void), delays(void), created(void);
 void sleepers(void);
@@ -71,7 +71,8 @@ void lives(void), crowds(void), echo_1_1(void), echo_40_8(void);
 void interrupts(void), shared_lines(void), interrupt_signals(void), interrupt_waits(void), interrupt_errors(void);
 void sleep_limits(void), used_up(void), semaphore_limits(void), mutex_limits(void), condition_limits(void);
 void logs(void), logs_in_buffers(void);
-void spawns(void), spawn_files(void), spawn_inherits(void), spawn_lists(void), spawn_overlays(void), daemons(void);
+void spawns(void), spawn_files(void), spawn_of_nothing(void), spawn_inherits(void), spawn_lists(void),
+    spawn_overlays(void), daemons(void);
 void daemon_with_channels(void);
 void client_info(void), pauses(void), pools_of_pulses(void), devices(void), small_headers(void);
 void dispatched(void), dispatched_others(void), dispatched_pulses(void), dispatched_names(void), dispatch_ends(void),

@@ -250,6 +250,34 @@ void join_timeouts(void) {
     check(pthread_join(thread, &value) == 0 && value == (void *)5); /* without a timeout */
 }
 
+static void *go_later(void *go) {
+    usleep(50000);
+    atomic_store((_Atomic int *)go, 1);
+    return NULL;
+}
+
+/* Joins with a limit of their own, which takes the place of a timeout. */
+void timed_joins(void) {
+    _Atomic int go = 0;
+    void *value = NULL;
+    uint64_t real, monotonic;
+    struct timespec limit, wrong = {1, 1000000000};
+    pthread_t thread = start(wait_for_go, &go);
+    check(ClockTime(CLOCK_REALTIME, NULL, &real) == 0 && ClockTime(CLOCK_MONOTONIC, NULL, &monotonic) == 0);
+    nsec2timespec(&limit, real + 1000000);
+    set_timeout(_NTO_TIMEOUT_JOIN, 1000000000000);
+    check(pthread_timedjoin(thread, &value, &limit) == ETIMEDOUT);
+    nsec2timespec(&limit, monotonic + 1000000);
+    set_timeout(_NTO_TIMEOUT_JOIN | _NTO_TIMEOUT_NANOSLEEP, 1000000000000);
+    check(pthread_timedjoin_monotonic(thread, &value, &limit) == ETIMEDOUT);
+    check(TimerTimeout(CLOCK_MONOTONIC, 0, NULL, NULL, &real) == 0 && real == 0);
+    check(pthread_timedjoin(thread, &value, &wrong) == EINVAL);
+    check(pthread_timedjoin_monotonic(thread, &value, &wrong) == EINVAL);
+    nsec2timespec(&limit, monotonic + 1000000000000);
+    pthread_t other = start(go_later, &go);
+    check(pthread_timedjoin_monotonic(thread, &value, &limit) == 0 && value == (void *)5 && result_of(other) == 0);
+}
+
 void timeout_errors(void) {
     struct sigevent event;
     uint64_t time = 1;

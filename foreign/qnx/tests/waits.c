@@ -11,6 +11,12 @@ static uint64_t now_in_nanoseconds(void) {
     return timespec2nsec(&now);
 }
 
+static struct timespec monotonic_after(uint64_t nanoseconds) {
+    struct timespec time;
+    nsec2timespec(&time, now_in_nanoseconds() + nanoseconds);
+    return time;
+}
+
 /* Sleeps end at the timeout, and their rest is written. Without the timeout, or after it, they don't. */
 void sleep_limits(void) {
     struct timespec minute = {60, 0}, brief = {0, 100000}, left = {0, 0}, until, wrong = {0, -1};
@@ -99,6 +105,10 @@ void semaphore_limits(void) {
     set_timeout(_NTO_TIMEOUT_SEM | _NTO_TIMEOUT_NANOSLEEP, soon);
     fails(sem_timedwait(&semaphore, &past), ETIMEDOUT);
     check(usleep(20000) == 0); /* the limit of its own took the timeout's place */
+    set_timeout(_NTO_TIMEOUT_SEM | _NTO_TIMEOUT_NANOSLEEP, far_off);
+    struct timespec limit = monotonic_after(soon);
+    fails(sem_timedwait_monotonic(&semaphore, &limit), ETIMEDOUT);
+    check(now_in_nanoseconds() >= timespec2nsec(&limit));
     check(sem_destroy(&semaphore) == 0);
 }
 
@@ -110,6 +120,10 @@ static void *try_mutex(void *argument) {
     check(pthread_mutex_lock(&held) == ETIMEDOUT);
     set_timeout(_NTO_TIMEOUT_MUTEX, far_off);
     check(pthread_mutex_timedlock(&held, &past) == ETIMEDOUT);
+    struct timespec limit = monotonic_after(soon);
+    set_timeout(_NTO_TIMEOUT_MUTEX, far_off);
+    check(pthread_mutex_timedlock_monotonic(&held, &limit) == ETIMEDOUT);
+    check(now_in_nanoseconds() >= timespec2nsec(&limit));
     check(pthread_mutex_lock(&held) == 0 && pthread_mutex_unlock(&held) == 0); /* without a timeout */
     return argument;
 }

@@ -134,10 +134,11 @@ int message_detach(dispatch_t *dpp, int low, int high, unsigned flags);
  * another flag), and the errors of ConnectAttach. */
 int message_connect(dispatch_t *dpp, int flags);
 
-/* Attaches a function to the pulses of a code, which may also be one of the kernel's. With
- * MSG_FLAG_ALLOC_PULSE it takes the first free code of the program's range. Returns the code, or -1: EINVAL
- * (dpp or the function is null, the code isn't -128 to 127 or is attached, or another flag), EAGAIN (no code is
- * free), ENOMEM, and the errors of ChannelCreate. */
+/* Attaches a function to the pulses of a code: _PULSE_CODE_MINAVAIL to _PULSE_CODE_MAXAVAIL, or one of the
+ * kernel's, such as _PULSE_CODE_COIDDEATH. With MSG_FLAG_ALLOC_PULSE the code isn't used: it takes the first free
+ * one from _PULSE_CODE_MINAVAIL. Returns the code, or 0 for _PULSE_CODE_UNBLOCK, which is -1 here. -1: EINVAL (dpp
+ * or the function is null, another code, the code is attached, or another flag), EAGAIN (no code is free), ENOMEM,
+ * and the errors of ChannelCreate. */
 int pulse_attach(dispatch_t *dpp, int flags, int code,
                  int (*func)(message_context_t *ctp, int code, unsigned flags, void *handle), void *handle);
 
@@ -186,7 +187,7 @@ typedef struct _thread_pool_attr {
     int (*handler_func)(THREAD_POOL_PARAM_T *ctp);
     THREAD_POOL_PARAM_T *(*context_alloc)(THREAD_POOL_HANDLE_T *handle);
     void (*context_free)(THREAD_POOL_PARAM_T *ctp);
-    pthread_attr_t *attr; /* of the threads, or null; it stays the program's */
+    pthread_attr_t *attr; /* of the threads, or null; thread_pool_create copies it */
     unsigned short lo_water;
     unsigned short increment;
     unsigned short hi_water;
@@ -255,6 +256,7 @@ NEUTRINO_MISSING(resmgr_msgwritev);
 NEUTRINO_MISSING(resmgr_open_bind);
 NEUTRINO_MISSING(resmgr_pathname);
 NEUTRINO_MISSING(resmgr_unbind);
+NEUTRINO_MISSING(select_query);
 NEUTRINO_MISSING(sigwait_attach);
 NEUTRINO_MISSING(sigwait_detach);
 
