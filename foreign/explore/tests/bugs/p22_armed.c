@@ -4,7 +4,9 @@
 
 #include <time.h>
 
-static struct request { bool is_late; } * present;
+static struct request {
+    bool is_late;
+} *volatile present; /* or else a compiler may take it for granted that it was set */
 static int chid;
 static pthread_mutex_t lock = PTHREAD_MUTEX_INITIALIZER;
 
