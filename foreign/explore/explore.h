@@ -70,9 +70,9 @@ struct program {
     struct explore_run *run;
     struct request request; /* of the present run */
     uint32_t planned;
-    struct outcome outcome;   /* of the last run */
-    uint32_t seen_events;     /* when the run was last seen to make progress, */
-    double seen_at, seen_cpu; /* and the time and the processor time then */
+    struct outcome outcome;                /* of the last run */
+    uint32_t seen_events;                  /* when the run was last seen to make progress, */
+    double seen_at, seen_cpu, seen_queued; /* and the time, the processor time and the wait for processors then */
     bool was_killed, spins;
     void *origin; /* what the search keeps for the run */
 };
@@ -99,9 +99,9 @@ struct search {
     const struct options *options;
     struct program *programs; /* of the option's number */
     double begun;             /* in seconds */
-    long runs;
-    bool early;     /* the second phase, in which time may go on while a thread can run */
-    bool has_times; /* a run had a time that could have come early, so there is a second phase */
+    long started, runs;       /* runs that have started, and those that have ended */
+    bool early;               /* the second phase, in which time may go on while a thread can run */
+    bool has_times;           /* a run had a time that could have come early, so there is a second phase */
     bool is_whole;
     bool has_cut; /* a run was ended before its end, so not all orders were made */
     uint32_t longest;

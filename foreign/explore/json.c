@@ -1,12 +1,31 @@
 /* The results as JSON. Tested, not proved. */
+
+/* Returns the length of the UTF-8 character at the begin of a text, or 0 if there is none. */
+static size_t character_length(const unsigned char *text) {
+    static const uint32_t least[] = {0, 0, 0x80, 0x800, 0x10000};
+    size_t length = *text < 0x80 ? 1 : *text < 0xc0 ? 0 : *text < 0xe0 ? 2 : *text < 0xf0 ? 3 : *text < 0xf8 ? 4 : 0;
+    if (length < 2) return length;
+    uint32_t number = *text & 0x7fu >> length;
+    for (size_t at = 1; at < length; at++) {
+        if ((text[at] & 0xc0) != 0x80) return 0;
+        number = number << 6 | (text[at] & 0x3fu);
+    }
+    bool is_surrogate = number >> 11 == 0x1b;
+    return number < least[length] || number > 0x10ffff || is_surrogate ? 0 : length;
+}
+
+/* A byte that isn't UTF-8 becomes the replacement character. */
 static void print_string(const char *text) {
     putchar('"');
-    for (; *text; text++) {
+    while (*text) {
         unsigned char byte = (unsigned char)*text;
+        size_t length = character_length((const unsigned char *)text);
         if (byte == '"' || byte == '\\') printf("\\%c", byte);
         else if (byte == '\n') printf("\\n");
         else if (byte < ' ') printf("\\u%04x", byte);
-        else putchar(byte);
+        else if (length) fwrite(text, 1, length, stdout);
+        else printf("\\ufffd");
+        text += length ? length : 1;
     }
     putchar('"');
 }

@@ -1,5 +1,7 @@
 /* An explored program: its start as a server, and its runs. Tested, not proved. */
+#include <dirent.h>
 #include <fcntl.h>
+#include <limits.h>
 #include <poll.h>
 #include <signal.h>
 #include <sys/mman.h>
@@ -9,7 +11,7 @@
 
 enum { STARTS = 10 };                      /* seconds in which a program has to start */
 enum { LOOK = 100 };                       /* milliseconds between looks at a run */
-static const double SPINS = 1, STOPS = 10; /* seconds of the processor, and of the clock, without an event, */
+static const double SPINS = 1, STOPS = 10; /* seconds of the processor, and idle ones, without an event, */
 enum { SLOWER = 20 };                      /* and how many times as long with ThreadSanitizer */
 
 static int states_file = -1;
@@ -198,19 +200,38 @@ static double processor_time(pid_t pid) {
     return (double)(user + system) / (double)sysconf(_SC_CLK_TCK);
 }
 
-/* Ends a run that makes no progress. */
+/* Returns the seconds that the threads of a process have waited for a processor. */
+static double queued_time(pid_t pid) {
+    char path[64 + NAME_MAX];
+    unsigned long long waited, all = 0;
+    snprintf(path, sizeof path, "/proc/%d/task", (int)pid);
+    DIR *threads = opendir(path);
+    for (const struct dirent *thread; threads && (thread = readdir(threads));) {
+        snprintf(path, sizeof path, "/proc/%d/task/%s/schedstat", (int)pid, thread->d_name);
+        FILE *file = fopen(path, "r");
+        if (file && fscanf(file, "%*u %llu", &waited) == 1) all += waited;
+        if (file) fclose(file);
+    }
+    if (threads) closedir(threads);
+    return (double)all / 1e9;
+}
+
+/* Ends a run that makes no progress: it computes, or it is idle. On a busy machine a thread that computes waits for a
+ * processor, and isn't idle. */
 static void look_at_progress(struct program *p) {
-    double now = seconds_now(), cpu = processor_time(p->child);
+    double now = seconds_now(), cpu = processor_time(p->child), queued = queued_time(p->child);
     uint32_t events = p->run->event_count;
     if (events != p->seen_events || !p->seen_cpu) {
         p->seen_events = events;
         p->seen_at = now;
         p->seen_cpu = cpu > 0 ? cpu : 1e-9;
+        p->seen_queued = queued;
         return;
     }
-    double factor = p->run->has_tsan ? SLOWER : 1;
-    p->spins = cpu - p->seen_cpu >= SPINS * factor;
-    if (!p->spins && now - p->seen_at < STOPS * factor) return;
+    double factor = p->run->has_tsan ? SLOWER : 1, computed = cpu - p->seen_cpu;
+    double idle = now - p->seen_at - computed - (queued - p->seen_queued);
+    p->spins = computed >= SPINS * factor;
+    if (!p->spins && idle < STOPS * factor) return;
     p->was_killed = true;
     kill(p->child, SIGKILL);
 }

@@ -87,36 +87,44 @@ static const struct explore_event *next_of(const struct explore_run *run, uint32
     return NULL;
 }
 
-/* Adds an early time: the first thread that times out by it, and the operation that could have come before. */
-static void add_early(struct text *text, const struct explore_run *run, const struct explore_choice *c) {
-    char late[WORDS] = "a time", name[WORDS], words[WORDS];
+/* Writes the next operation of a task after some event: one that it made, or the one for which it waits at the end of
+ * the run. */
+static const char *next_words(const struct explore_run *run, uint32_t from, unsigned task, char words[WORDS]) {
+    const struct explore_event *e = next_of(run, from, task);
+    const struct explore_task *t = &run->tasks[task % TASKS];
+    bool waits = t->life == 1 && !t->state && run->running != task;
+    const struct explore_event stated = {
+        .task = (uint8_t)task, .operation = t->operation, .other = TASKS, .chid = t->chid};
+    if (e) return event_words(run, e, words);
+    if (waits) return event_words(run, &stated, words);
+    char name[WORDS];
+    snprintf(words, WORDS, "%.60s goes on", task_name(run, task, name));
+    return words;
+}
+
+/* Writes what an early time has led to: the end of a thread's time, or the expiry of a timer. */
+static const char *early_words(const struct explore_run *run, const struct explore_choice *c, char words[WORDS]) {
+    char late[WORDS];
+    snprintf(words, WORDS, "a time");
     for (uint32_t at = c->events; at < run->event_count; at++) {
         const struct explore_event *e = &run->events[at];
-        if (!e->is_late && e->operation != DO_EXPIRE) continue;
-        snprintf(late, sizeof late, "the end of the time of %.60s", event_words(run, e, words));
+        if (e->task == SERVICE) return "the expiry of a timer";
+        if (!e->is_late) continue;
+        snprintf(words, WORDS, "the end of the time of %.60s", event_words(run, e, late));
         break;
     }
-    const struct explore_event *usual = next_of(run, c->events, c->usual);
-    if (usual) add(text, "  %s\n    before %s\n", late, event_words(run, usual, words));
-    else add(text, "  %s\n    before %s goes on\n", late, task_name(run, c->usual, name));
+    return words;
 }
 
 /* Adds the operations that came in another order than they usually do. */
 static void add_order_of(struct text *text, const struct explore_run *run) {
-    char name[WORDS], words[WORDS];
+    char words[WORDS];
     for (uint32_t at = 0; at < run->choice_count; at++) {
         const struct explore_choice *c = &run->choices[at];
         if (c->chosen == c->usual) continue;
-        if (c->chosen == CLOCK) {
-            add_early(text, run, c);
-            continue;
-        }
-        const struct explore_event *chosen = next_of(run, c->events, c->chosen),
-                                   *usual = next_of(run, c->events, c->usual);
-        if (chosen) add(text, "  %s\n", event_words(run, chosen, words));
-        else add(text, "  %s\n", task_name(run, c->chosen, name));
-        if (usual) add(text, "    before %s\n", event_words(run, usual, words));
-        else add(text, "    before %s goes on\n", task_name(run, c->usual, name));
+        bool is_early = c->chosen == CLOCK;
+        add(text, "  %s\n", is_early ? early_words(run, c, words) : next_words(run, c->events, c->chosen, words));
+        add(text, "    before %s\n", next_words(run, c->events, c->usual, words));
     }
 }
 

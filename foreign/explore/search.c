@@ -17,7 +17,7 @@ static bool is_over(const struct search *s) {
     if (s->finding_count && !o->all && !s->wanted) return true;
     if (s->finding_count == KINDS) return true;
     double part = has_second_phase(s) ? 0.5 : 1;
-    if (o->runs && (double)s->runs >= part * (double)o->runs) return true;
+    if (o->runs && (double)s->started >= part * (double)o->runs) return true;
     return o->seconds > 0 && seconds_now() > s->begun + part * o->seconds;
 }
 
@@ -103,6 +103,7 @@ static int begin_runs(struct search *s, const struct strategy *strategy) {
         struct request request = {.next = DEFAULT_CHOICE, .seed = 1, .early = s->early};
         bool may_begin = !p->child && !is_over(s) && strategy->next(s, &request, &p->origin);
         if (may_begin) begin_run(p, s->options, &request);
+        s->started += may_begin;
         running += p->child != 0;
     }
     return running;

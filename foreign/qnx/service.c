@@ -14,7 +14,20 @@ static _Atomic int given; /* orders of an explored run that aren't obeyed yet */
 
 static int give_order(const struct order *order) {
     if (exploring) given++;
-    return write(orders[1], order, sizeof *order) == sizeof *order ? 0 : fail(EAGAIN);
+    release_order(&given);
+    look_away();
+    bool is_given = write(orders[1], order, sizeof *order) == sizeof *order;
+    look_again();
+    return is_given ? 0 : fail(EAGAIN);
+}
+
+/* Takes the next order. Returns whether there is one. */
+static bool take_order(struct order *order) {
+    look_away();
+    bool is_taken = read(orders[0], order, sizeof *order) == sizeof *order;
+    look_again();
+    acquire_order(&given);
+    return is_taken;
 }
 
 /* Has the front's thread send a pulse, for a signal handler. With SIGEV_PULSE_PRIO_INHERIT the pulse has the
@@ -32,7 +45,7 @@ static void on_quit(int signo) {
 
 static void obey(void) {
     struct order order;
-    if (read(orders[0], &order, sizeof order) != sizeof order) return;
+    if (!take_order(&order)) return;
     if (!order.coid) neutrino_show(STDERR_FILENO);
     else send_pulse(order.coid, order.priority, order.code, order.value);
 }

@@ -2,6 +2,7 @@
  *
  * The host runs on_signal, which marks the call of its thread as interrupted and then runs the program's
  * handler. */
+#include <fcntl.h>
 #include <ucontext.h>
 
 enum { NESTED = 8 }; /* a thread records at most this number of nested handlers */
@@ -106,15 +107,31 @@ void (*neutrino_signal(int signo, void (*handler)(int)))(int) {
     return SIG_ERR;
 }
 
-/* In an explored run the caller waits until the handler has run, but not for long: the thread may block the signal. */
+/* Whether a thread of an explored run blocks a signal, as the host shows it. */
+static bool blocks(const struct task *t, int signo) {
+    char text[4096], *line;
+    snprintf(text, sizeof text, "/proc/self/task/%d/status", (int)t->host);
+    int file = open(text, O_RDONLY | O_CLOEXEC);
+    ssize_t length = file == -1 ? 0 : read(file, text, sizeof text - 1);
+    if (file != -1) close(file);
+    text[length > 0 ? length : 0] = 0;
+    line = strstr(text, "\nSigBlk:");
+    return line && strtoull(line + sizeof "\nSigBlk:", NULL, 16) >> (signo - 1) & 1;
+}
+
+/* In an explored run the caller waits until the handler has run, unless the thread blocks the signal. */
 int neutrino_pthread_kill(pthread_t thread, int signo) {
+    enum { PAUSES = 20000, LOOKS = 100 };
     if (!explores() || signo < 1 || signo >= NSIG) return pthread_kill(thread, signo);
     step_if_explored(DO_KILL);
     struct task *t = task_of(thread);
     int before = handled;
     if (t && t->shown->operation == DO_SLEEP) t->is_signalled = true;
     int error = pthread_kill(thread, signo);
-    bool waits = !error && t != me && atomic_load(&handlers[signo]);
-    for (int left = 1000; waits && handled == before && left; left--) pause_for_host(100000);
+    bool waits = !error && t && t != me && life_of(t) == PRESENT && atomic_load(&handlers[signo]);
+    for (int pauses = 1; waits && handled == before && pauses <= PAUSES; pauses++) {
+        pause_for_host(100000);
+        if (pauses % LOOKS == 0 && blocks(t, signo)) break;
+    }
     return error;
 }

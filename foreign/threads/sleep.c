@@ -111,14 +111,19 @@ static bool interrupt_word(struct place *p) {
            atomic_compare_exchange_strong(&p->word, &asleep, INTERRUPTED);
 }
 
+/* Tells the scheduler that the calls of these threads have ended. It is out of line, so that tell stays small. */
+__attribute__((noinline, cold)) static void tell_scheduler(const neutrino *k, uint64_t ended) {
+    for (; ended; ended &= ended - 1) k->scheduler->ended(k->places[__builtin_ctzll(ended)].tid);
+}
+
 /* Sets the words of these threads to ENDED. Returns the threads that sleep. */
-static uint64_t tell(neutrino *k, uint64_t ended) {
+static inline uint64_t tell(neutrino *k, uint64_t ended) {
     uint64_t asleep = 0;
-    for (; ended; ended &= ended - 1) {
-        int place = __builtin_ctzll(ended);
+    for (uint64_t left = ended; left; left &= left - 1) {
+        int place = __builtin_ctzll(left);
         if (atomic_exchange(&k->places[place].word, ENDED) == ASLEEP) asleep |= 1ull << place;
-        if (k->scheduler) k->scheduler->ended(k->places[place].tid);
     }
+    if (k->scheduler) tell_scheduler(k, ended);
     return asleep;
 }
 

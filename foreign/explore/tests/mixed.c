@@ -1,10 +1,11 @@
 /* mixed [SEED]: two threads with random operations, for the table of dependent operations
  * (foreign/qnx/explore/dependence.c). It prints what the threads have seen. Up to the seed 100 each thread has one
- * operation, and from there on two. The main thread doesn't wait for the second thread if the seed is odd. Without a
- * seed it prints the seeds of the test. */
+ * operation, and from there on two. If the seed is odd, the main thread doesn't wait for the second thread, and prints
+ * what that has seen only if it has ended. Without a seed it prints the seeds of the test. */
 #include <errno.h>
 #include <pthread.h>
 #include <semaphore.h>
+#include <stdbool.h>
 #include <stdint.h>
 #include <stdio.h>
 #include <stdlib.h>
@@ -17,12 +18,13 @@ enum { THREADS = 2, MOST = 2, CHANNELS = 2 };
 static const uint64_t brief = 1000000;
 
 static int chids[CHANNELS], coids[CHANNELS], held, seen[THREADS + 1][MOST];
+static bool is_odd;                    /* the seed */
 static int counters[2], takes, writes; /* each is used only right after an operation on its lock */
 static _Thread_local char own;         /* differs for each operation of each thread */
 static pthread_mutex_t locks[2] = {PTHREAD_MUTEX_INITIALIZER, PTHREAD_MUTEX_INITIALIZER};
 static pthread_cond_t changed = PTHREAD_COND_INITIALIZER;
 static pthread_rwlock_t shared = PTHREAD_RWLOCK_INITIALIZER;
-static sem_t sem;
+static sem_t sem, second_ended;
 
 static int result(long value) { return value == -1 ? -errno : (int)value; }
 
@@ -205,6 +207,7 @@ static void *work(void *argument) {
         own = (char)(1 + thread * MOST + at);
         seen[thread][at] = operations[works[thread].parts[at].operation](works[thread].parts[at].which);
     }
+    if (thread == 1 && is_odd) sem_post(&second_ended);
     return NULL;
 }
 
@@ -223,11 +226,12 @@ static void print_seeds(void) {
     for (int seed = 1; seed <= 130; seed++) printf("%d\n", seed);
 }
 
-/* Prints what the threads have seen. */
-static void print_seen(void) {
-    for (int thread = 0; thread <= THREADS; thread++) {
+/* Prints what the first threads have seen, and the main thread. */
+static void print_seen(int threads) {
+    for (int thread = 0; thread < threads; thread++) {
         for (int at = 0; at < MOST; at++) printf("%d ", seen[thread][at]);
     }
+    printf("%d ", seen[THREADS][0]);
 }
 
 int main(int count, char **words) {
@@ -237,16 +241,17 @@ int main(int count, char **words) {
         print_seeds();
         return 0;
     }
+    is_odd = seed % 2;
     choose_work(seed, seed <= 100 ? 1 : MOST);
     chids[0] = ChannelCreate(_NTO_CHF_UNBLOCK | _NTO_CHF_DISCONNECT);
     chids[1] = ChannelCreate(0);
     for (int at = 0; at < CHANNELS; at++) coids[at] = ConnectAttach(ND_LOCAL_NODE, 0, chids[at], _NTO_SIDE_CHANNEL, 0);
     sem_init(&sem, 0, seed / 2 % 2);
+    sem_init(&second_ended, 0, 0);
     for (int at = 0; at < THREADS; at++) pthread_create(&threads[at], NULL, work, (void *)(intptr_t)at);
-    for (int at = 0; at < THREADS; at++) {
-        if (at == 0 || seed % 2 == 0) pthread_join(threads[at], NULL);
-    }
+    pthread_join(threads[0], NULL);
+    if (!is_odd) pthread_join(threads[1], NULL);
     if (seed % 3 == 0) seen[THREADS][0] = open_name(1);
-    print_seen();
+    print_seen(is_odd && sem_trywait(&second_ended) ? 1 : THREADS);
     return 0;
 }

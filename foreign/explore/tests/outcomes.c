@@ -50,6 +50,13 @@ static void locks(void) {
 static int *volatile nowhere;
 static void crash(void) { *nowhere = 1; }
 static void status(void) { exit(3); }
+
+/* It prints a byte that isn't UTF-8, and characters that are. */
+static void garbles(void) {
+    fputs("\xff\xc3\xbc \xf0\x9f\x98\x80 \"\\\t\xed\xa0\x80\n", stderr);
+    exit(4);
+}
+
 static void badf(void) { MsgSend(coid + 1, "x", 1, NULL, 0); }
 
 static void endless(void) {
@@ -88,7 +95,7 @@ static const struct {
     void (*run)(void);
 } cases[] = {
     CASE(deadlock), CASE(locks), CASE(crash),   CASE(status), CASE(badf),
-    CASE(endless),  CASE(forks), CASE(unknown), CASE(passes),
+    CASE(endless),  CASE(forks), CASE(unknown), CASE(passes), CASE(garbles),
 };
 
 int main(int count, char **words) {

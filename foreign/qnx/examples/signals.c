@@ -3,6 +3,7 @@
 #include <errno.h>
 #include <pthread.h>
 #include <signal.h>
+#include <stdatomic.h>
 #include <stdio.h>
 #include <stdlib.h>
 #include <string.h>
@@ -12,7 +13,8 @@
 #define CODE_CHILD (_PULSE_CODE_MINAVAIL + 3)
 
 static int coid;
-static volatile sig_atomic_t terminated, ended;
+static volatile sig_atomic_t terminated;
+static atomic_bool ended;
 
 static void on_term(int signo)
 {

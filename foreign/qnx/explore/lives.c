@@ -23,6 +23,7 @@ static void begin_task(struct task *t) {
     look_away();
     me = t;
     me->thread = pthread_self();
+    me->host = gettid();
     use_crash_stack();
     sleep_until_turn(me);
     begin_turn();

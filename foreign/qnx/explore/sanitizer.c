@@ -2,6 +2,8 @@
  *
  * Operations before a message, a pulse or a reply come before its receipt. ThreadSanitizer doesn't look at the
  * lock of the kernel and at the turns, which would hide races. */
+#include <poll.h>
+
 __attribute__((weak)) void __tsan_acquire(void *at);
 __attribute__((weak)) void __tsan_release(void *at);
 __attribute__((weak)) void AnnotateIgnoreReadsBegin(const char *file, int line);
@@ -22,6 +24,17 @@ static void release_order(void *at) {
 
 static void acquire_order(void *at) {
     if (has_tsan()) __tsan_acquire(at);
+}
+
+/* ThreadSanitizer keeps a signal until its thread calls one of the functions that it replaces, such as poll. So a
+ * thread that waits for its turn calls one now and then. */
+static const struct timespec *longest_sleep(void) {
+    static const struct timespec limit = {0, 10000000};
+    return has_tsan() ? &limit : NULL;
+}
+
+static void take_signals(void) {
+    if (has_tsan()) poll(NULL, 0, 0);
 }
 
 /* Orders the uses of the table of names, and the uses of timers, as a lock of each would. */

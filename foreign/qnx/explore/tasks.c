@@ -26,6 +26,7 @@ struct task {
     uint32_t made;            /* operations */
     unsigned clock_reads;     /* since its last operation */
     pthread_t thread;
+    pid_t host; /* the host's number of the thread */
 };
 
 enum { ABSENT, PRESENT, OVER };
@@ -88,8 +89,14 @@ static void await_exit(void) {
     exiting = 0;
 }
 
+static const struct timespec *longest_sleep(void);
+static void take_signals(void);
+
 static void sleep_until_turn(struct task *t) {
-    while (!atomic_load(&t->turn)) syscall(SYS_futex, &t->turn, FUTEX_WAIT_PRIVATE, 0, NULL, NULL, 0);
+    while (!atomic_load(&t->turn)) {
+        syscall(SYS_futex, &t->turn, FUTEX_WAIT_PRIVATE, 0, longest_sleep(), NULL, 0);
+        take_signals();
+    }
     atomic_store(&t->turn, 0);
     if (exiting) await_exit();
 }
