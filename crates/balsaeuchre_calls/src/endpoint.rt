@@ -164,7 +164,8 @@ impl<'a, K: Tie, L: Log> KernelPort<'a, K, L> {
         ensures others { Extends self.new.port.core.seen.trace other.entry.now }
         ensures taken { collected_by self.new.port ≡ collected_by self.old.port }
         ensures same { (self.new.port.core.thread ≡ self.old.port.core.thread)
-            × (self.new.port.core.asked ≡ self.old.port.core.asked) × (self.new.port.core.seat ≡ self.old.port.core.seat)
+            × (self.new.port.core.asked ≡ self.old.port.core.asked)
+            × (self.new.port.core.seat ≡ self.old.port.core.seat)
             × (self.new.port.core.turn.pending ≡ self.old.port.core.turn.pending)
             × (self.new.port.core.last ≡ self.old.port.core.last) × (self.new.told ≡ self.old.told) }
     {

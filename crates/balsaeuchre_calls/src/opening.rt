@@ -128,7 +128,8 @@ pub fn close<K: Tie>(
     ensures due { IfOk result
         (λ trace. IsDue K.names.roster (map collected_by ports.items) (followed_by [] trace.events)) }
     ensures error { IfErr result
-        (λ e. (e ≡ error.Unexpected) × ¬ (AreAll (λ p. thread_of p.core.seat) K.names.cells.slots ports.items)) }
+        (λ e. (e ≡ error.Unexpected) × ¬ (AreAll (λ p. thread_of p.core.seat) K.names.cells.slots
+        ports.items)) }
 {
     if !shared.all(ports.as_slice()) {
         return Err(CallError::Unexpected);

@@ -62,7 +62,8 @@ fn look<'a, 'p, K: Tie, L: Log, R: Wait>(
     thread: ThreadNo,
 ) -> Result<ThreadStatus>
     ensures { ComesOf (λ e. ⟦<KernelPort<'p, K, L> as Endpoint>⟧.history e)
-        (λ e c a after. AtPast K.names.roster e.port.core.thread e.port.core.asked.calls e.port.core.seen.trace
+        (λ e c a after. AtPast K.names.roster e.port.core.thread e.port.core.asked.calls
+        e.port.core.seen.trace
         (AfterAnswer reply_in note.now.answer note.now.seen
         (λ past. Answered K.names.roster L.refuses L.admits e.port.core.thread c a past after)))
         ⟦<KernelPort<'p, K, L> as Endpoint>⟧.awaited other.old.endpoint (calls.State thread)

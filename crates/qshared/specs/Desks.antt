@@ -26,8 +26,8 @@ IsNamed names u = (roster_of u ≡ names.roster) × (u.cells ≡ names.cells) ×
 abbrev pub names_in : List KernelCalls → List ℕ
 names_in hs = map (λ h. h.name) hs
 
--- the port belongs to this kernel and to these lists of calls: its token is for the thread's cell, its list is
--- the thread's, and it has seen the kernel's history
+-- the port belongs to this kernel and to these lists of calls: its token is for the thread's cell, its list
+-- is the thread's, and it has seen the kernel's history
 pub record IsPortOf (u : UnderLock) (heard : List KernelCalls) (p : DeskPort) : Type 0 where
   pub cells : thread_id p.seat ≡ u.cells
   pub at : place (threads_of (roster_of u)) p.thread ≡ Some (thread_of p.seat)

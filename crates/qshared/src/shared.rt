@@ -287,7 +287,8 @@ impl<K: Tie, L: Log> Shared<K, L> {
         requires all { AreAll (λ p. thread_of p.core.seat) K.names.cells.slots ports.items }
         ensures calls { result.calls.items ≡ map (λ p. p.calls) ports.items }
         ensures sum { sum result.calls.items ≡ length (L.past result.log) }
-        ensures asked { AreCallsOf K.names.roster (map (λ p. p.core.asked.calls) ports.items) (L.past result.log) }
+        ensures asked { AreCallsOf K.names.roster (map (λ p. p.core.asked.calls) ports.items)
+            (L.past result.log) }
         ensures seen { AreSeen (L.past result.log) (map (λ p. p.core.seen.trace) ports.items) }
         ensures lawful { IsLawful K.names.roster (L.past result.log)
             × HasProperties K.names.roster (L.past result.log) }
@@ -368,7 +369,8 @@ impl<K: Tie> Shared<K, RecordedHistory<K>> {
         ensures within { length result.trace.events ≤ K.names.limit }
         ensures asked { AreCallsOf K.names.roster (map (λ p. p.core.asked.calls) ports.items)
             (followed_by [] result.trace.events) }
-        ensures seen { AreSeen (followed_by [] result.trace.events) (map (λ p. p.core.seen.trace) ports.items) }
+        ensures seen { AreSeen (followed_by [] result.trace.events)
+            (map (λ p. p.core.seen.trace) ports.items) }
         ensures lawful { (result.trace.first ≡ 1)
             × IsLawful K.names.roster (followed_by [] result.trace.events)
             × HasProperties K.names.roster (followed_by [] result.trace.events) }
@@ -414,7 +416,8 @@ impl<K: Tie> Shared<K, GhostHistory> {
         ensures rises { RiseByThread result.left.items }
         ensures known { AreKnown K.names.roster result.left.items }
         ensures past { HasPast K.names.roster (map collected_by ports.items)
-            (map (λ p. p.core.asked.calls) ports.items) (map (λ p. p.core.seen.trace) ports.items) result.calls.items
+            (map (λ p. p.core.asked.calls) ports.items) (map (λ p. p.core.seen.trace) ports.items)
+            result.calls.items
             result.left.items }
     {
         let Closed { calls, left, .. } = self.close(ports);

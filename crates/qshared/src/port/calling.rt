@@ -51,7 +51,8 @@ impl<K: Tie> Port<K> {
     /// of 2^40 events is left.
     /// `endpoint.rt` of `crates/balsaeuchre_calls` calls it.
     pub fn call<L: Log, R: Wait>(&mut self, shared: &Shared<K, L>, rt: &R, call: Call) -> Called
-        ensures came { AtPast K.names.roster self.old.core.thread self.old.core.asked.calls self.old.core.seen.trace
+        ensures came { AtPast K.names.roster self.old.core.thread self.old.core.asked.calls
+            self.old.core.seen.trace
             (λ past. Answered K.names.roster L.refuses L.admits self.old.core.thread call result past
             self.new.core.seen.trace) }
         ensures calls { self.new.calls ≡ self.old.calls + (if is_call result then 1 else 0) }
@@ -90,11 +91,14 @@ impl<K: Tie> Port<K> {
         first: Call,
         second: Call,
     ) -> CalledPair
-        ensures came { AtPast K.names.roster self.old.core.thread self.old.core.asked.calls self.old.core.seen.trace
-            (λ past. AnsweredBoth K.names.roster L.refuses L.admits self.old.core.thread first second result past
+        ensures came { AtPast K.names.roster self.old.core.thread self.old.core.asked.calls
+            self.old.core.seen.trace
+            (λ past. AnsweredBoth K.names.roster L.refuses L.admits self.old.core.thread first second result
+            past
             self.new.core.seen.trace) }
         ensures calls { self.new.calls ≡ self.old.calls + calls_in result }
-        ensures asked { self.new.core.asked.calls ≡ self.old.core.asked.calls ++ asked_by first second result }
+        ensures asked { self.new.core.asked.calls ≡ self.old.core.asked.calls
+            ++ asked_by first second result }
         ensures pending { self.new.core.turn.pending ≡ pends_both result self.old.core.turn.pending }
         ensures busy { OnBusyInBoth result (self.old.core.turn.pending ≡ true) }
         ensures taken { collected_by self.new ≡ collected_by self.old ++ gives_both result }
@@ -142,7 +146,8 @@ impl<K: Tie> Port<K> {
     ) -> Called
         requires cells { (cells_id cells.now ≡ K.names.cells) × IsOrigin K.names (origin_of cells.now) }
         requires copies { IfSome self.old.core.turn.copies (λ c. c ≡ call) }
-        ensures met { IsMet K.names.roster self.old.core.thread self.old.core.asked.calls self.old.core.seen.trace
+        ensures met { IsMet K.names.roster self.old.core.thread self.old.core.asked.calls
+            self.old.core.seen.trace
             locked.old.desk.traced.past }
         ensures came { Answered K.names.roster L.refuses L.admits self.old.core.thread call result
             locked.old.desk.traced.past self.new.core.seen.trace }
@@ -176,10 +181,12 @@ impl<K: Tie> Port<K> {
     ) -> Result<(), Errno>
         requires cells { (cells_id cells.now ≡ K.names.cells) × IsOrigin K.names (origin_of cells.now) }
         requires copies { IfSome self.old.core.turn.copies (λ c. c ≡ call.old) }
-        ensures met { IsMet K.names.roster self.old.core.thread self.old.core.asked.calls self.old.core.seen.trace
+        ensures met { IsMet K.names.roster self.old.core.thread self.old.core.asked.calls
+            self.old.core.seen.trace
             locked.old.desk.traced.past }
         ensures came { Answered K.names.roster L.refuses L.admits self.old.core.thread call.old
-            (called_by result self.new.core.turn.own call.old) locked.old.desk.traced.past self.new.core.seen.trace }
+            (called_by result self.new.core.turn.own call.old) locked.old.desk.traced.past
+            self.new.core.seen.trace }
         ensures refused { IfErr result (λ e. call.new ≡ call.old) }
         ensures past { locked.new.desk.traced.past ≡ self.new.core.seen.trace }
         ensures calls { self.new.calls ≡ self.old.calls + (if is_ok result then 1 else 0) }
@@ -208,7 +215,8 @@ impl<K: Tie> Port<K> {
         ensures taken { collected_by self.new ≡ collected_by self.old }
         ensures pending { self.new.core.turn.pending ≡ self.old.core.turn.pending }
         ensures same { (self.new.core.thread ≡ self.old.core.thread)
-            × (thread_of self.new.core.seat ≡ thread_of self.old.core.seat) × (self.new.calls ≡ self.old.calls)
+            × (thread_of self.new.core.seat ≡ thread_of self.old.core.seat)
+            × (self.new.calls ≡ self.old.calls)
             × (self.new.core.asked ≡ self.old.core.asked) × (self.new.core.seen ≡ self.old.core.seen) }
     {
         bytes_of(mem::replace(&mut self.core.turn.lent, Call::Shutdown))
@@ -220,7 +228,8 @@ impl<K: Tie> Port<K> {
         ensures own { Extends self.new.core.seen.trace self.old.core.seen.trace }
         ensures others { Extends self.new.core.seen.trace other.entry.now }
         ensures taken { collected_by self.new ≡ collected_by self.old }
-        ensures same { (self.new.core.thread ≡ self.old.core.thread) × (self.new.core.seat ≡ self.old.core.seat)
+        ensures same { (self.new.core.thread ≡ self.old.core.thread)
+            × (self.new.core.seat ≡ self.old.core.seat)
             × (self.new.calls ≡ self.old.calls) × (self.new.core.turn.pending ≡ self.old.core.turn.pending)
             × (self.new.core.asked ≡ self.old.core.asked) × (self.new.core.last ≡ self.old.core.last) }
     {

@@ -50,7 +50,8 @@ impl<K: Tie> Port<K> {
             × (self.new.core.asked ≡ self.old.core.asked) × (self.new.core.last ≡ self.old.core.last) }
         ensures seen { MatchOption result (self.new.core.seen ≡ self.old.core.seen)
             (λ x. Extends self.new.core.seen.trace self.old.core.seen.trace) }
-        ensures came { IfSome result (λ x. IsAwaited K.names.roster self.old.core.thread self.old.core.asked.calls
+        ensures came { IfSome result (λ x. IsAwaited K.names.roster self.old.core.thread
+            self.old.core.asked.calls
             self.old.core.last.trace x self.new.core.seen.trace) }
     {
         self.core.poll(&shared.cells)

@@ -1,6 +1,7 @@
 use Rattle.qshared.proofs.Common.{◌≡◌, refl, false, ◌+◌, ◌++◌, ◌∷◌, [], suc, arith, sym, ap, subst, ◌∙◌, map, reverse}
 use Rattle.qshared.proofs.Common.{length, length-append, append_assoc, get_or, ◌<◌, common_steps, YieldsList-from_vec}
-use Rattle.qshared.proofs.Common.{length-map, get_elem?, Some, same_Some, none-some, rises, at_index, taken, thread_id, thread_of}
+use Rattle.qshared.proofs.Common.{length-map, get_elem?, Some, same_Some, none-some, rises, at_index, taken}
+use Rattle.qshared.proofs.Common.{thread_id, thread_of}
 use Rattle.qshared.proofs.Common.{asked_in, collected, completions_in, place}
 use Rattle.qhandoff.specs.Words as cells
 use Rattle.std.proofs.lemmas.Iterator.Consumers.{YieldsList-turn, YieldsList-end}
@@ -152,7 +153,8 @@ loop-seat-preserved g c =
     ∙ length-append c.loop-seat.ports.items (p ∷ []) in
     let less : length c.loop-seat.asked.items ≡ length c.pop.new.self.items + 1 = ap length c.in-Some-pop.ensures.items
     ∙ length-append c.pop.new.self.items (own ∷ []) in (
-      ap (map (λ q. q.core.seat)) e ∙ map_snoc (λ q. q.core.seat) c.loop-seat.ports.items p ∙ ap (λ ys. ys ++ p.core.seat ∷ []) v.0
+      ap (map (λ q. q.core.seat)) e ∙ map_snoc (λ q. q.core.seat) c.loop-seat.ports.items p
+          ∙ ap (λ ys. ys ++ p.core.seat ∷ []) v.0
           ∙ ap (λ s. c.loop-seat.yielded ++ s ∷ []) (ap (λ q. q.seat) made ∙ parts.0),
       (λ k q at. each_pushed (λ r. (r.calls ≡ 0) × (r.core.turn.pending ≡ false) × (r.core.asked.calls ≡ [])
           × (r.core.seen.trace ≡ []) × (r.core.last.trace ≡ [])) c.loop-seat.ports.items p v.1 (
@@ -170,7 +172,8 @@ loop-seat-preserved g c =
       grind (arith, common_steps),
       ap (λ ys. map (λ q. q.core.asked.name) ys ++ R) e
           ∙ ap (λ ys. ys ++ R) (map_snoc (λ q. q.core.asked.name) c.loop-seat.ports.items p)
-          ∙ append_assoc N (p.core.asked.name ∷ []) R ∙ ap (λ n. N ++ n ∷ R) (ap (λ q. q.asked.name) made ∙ ap (λ a. a.name) parts.2)
+          ∙ append_assoc N (p.core.asked.name ∷ []) R ∙ ap (λ n. N ++ n ∷ R) (ap (λ q. q.asked.name) made
+          ∙ ap (λ a. a.name) parts.2)
           ∙ ap (λ ys. N ++ map (λ a. a.name) ys) (sym rest) ∙ v.6,
       (λ k. subst (λ xs. asked_in (get_elem? xs (suc k)) ≡ []) rest (v.7 (suc k))),
       omega (arith, more, less, v.8),

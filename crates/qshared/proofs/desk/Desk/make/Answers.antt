@@ -25,7 +25,8 @@ invariant_of-self-clause-heard_all g c =
     let p = called_by made.result made.new.turn.own c.args.call.now in
     let is = is_event made.result made.new.turn.own c.args.call.now in
     let hs = c.agree.new.heard.items in
-    let many : length hs ≡ c.args.self.now.traced.cells.slots = ap length c.agree.ensures.heard ∙ c.args.self.now.sized in
+    let many : length hs ≡ c.args.self.now.traced.cells.slots = ap length c.agree.ensures.heard
+    ∙ c.args.self.now.sized in
     let near : c.index-cell.result < length hs = omega (arith, c.requires.seat.1, c.index-cell.ensures, many) in
     let long : length (map (λ h. h.calls) hs) ≡ length hs = length-map hs (λ h. h.calls) in
     let told =

@@ -11,13 +11,15 @@ invariant_of-self-clause-spare c = λ up.
       | inl shut ↦
           let is = is_shutdown s.call.value shut in
           let answers =
-          subst (λ k. Answers (facts_of (members_of c.args.self.now.kernel.value.threads) s.past.trace) c.args.seat.now.thread k
+          subst (λ k. Answers (facts_of (members_of c.args.self.now.kernel.value.threads) s.past.trace)
+          c.args.seat.now.thread k
           c.args.completions.now.items) is c.requires.answers in
           let down : is_down (with_event c.args.seat.now.thread s.call.value c.args.completions.now.items s.past.trace)
           ≡ true =
           subst (λ k. is_down (with_event c.args.seat.now.thread k c.args.completions.now.items s.past.trace) ≡ true)
           (sym is)
-          (shutdown_down (members_of c.args.self.now.kernel.value.threads) s.past.trace c.args.seat.now.thread c.args.completions.now.items
+          (shutdown_down (members_of c.args.self.now.kernel.value.threads) s.past.trace c.args.seat.now.thread
+          c.args.completions.now.items
           c.requires.lawful c.requires.up c.requires.thread.1 answers) in
           absurd (true≢false (sym down ∙ ap is_down (sym (rw c.thread-thread.ensures at c.with-self.ensures)) ∙ up))
       | inr other ↦ let few = s.admitted other in

@@ -17,7 +17,8 @@ returns-clause-came g c =
           (
             c.make_whole-first.new.self.core.seen.trace,
             w.in-Done.ensures.came,
-            subst (λ past. Answered roster log.refuses log.admits self.core.thread c.args.second w.make_whole-second.result
+            subst (λ past. Answered roster log.refuses log.admits self.core.thread c.args.second
+                w.make_whole-second.result
                 past w.make_whole-second.new.self.core.seen.trace) w.in-Done.ensures.past
                 (subst
                 (λ t. Answered roster log.refuses log.admits t c.args.second w.make_whole-second.result

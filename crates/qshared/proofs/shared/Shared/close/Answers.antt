@@ -19,7 +19,8 @@ close-left-requires-clause-threads g c =
       ap length c.gather.ensures.seats ∙ length-map c.args.ports.items (λ p. p.core.seat) ∙ c.requires.all.0
           ∙ ap (λ y. y.slots) (sym c.args.self.cells_are),
       subst (IsRow z) (sym c.gather.ensures.seats)
-          (seats_row (λ p. p.core.seat) z c.args.ports.items (λ p. p.core_is.cells ∙ sym c.args.self.cells_are) c.requires.all.1),
+          (seats_row (λ p. p.core.seat) z c.args.ports.items (λ p. p.core_is.cells
+          ∙ sym c.args.self.cells_are) c.requires.all.1),
     )
 
 pub without_places-requires : goal.without_places-requires
@@ -48,7 +49,8 @@ returns-clause-asked g c = λ t i at.
     ap (λ ls. get_or ls i []) (sym (map_both (λ a. a.calls) (λ p. p.core.asked) c.args.ports.items)
     ∙ ap (map (λ a. a.calls)) (sym c.gather.ensures.asked) ∙ c.agree.ensures)
     ∙ c.into_inner-desk.result.desk.heard_all t i
-    (subst (λ r. place (threads_of r) t ≡ Some i) (sym c.into_inner-desk.result.named.0.0) at) ∙ ap (λ z. calls_of z.past t) (sym c.traced.view_is)
+    (subst (λ r. place (threads_of r) t ≡ Some i) (sym c.into_inner-desk.result.named.0.0) at)
+    ∙ ap (λ z. calls_of z.past t) (sym c.traced.view_is)
 
 pub returns-clause-sum : goal.returns-clause-sum
 returns-clause-sum g c =
@@ -130,19 +132,23 @@ returns-clause-due g c =
     left_due ts past all (rises g.K.Tie.names.roster h.rises) (left_rises _ c.close-left.ensures.rises) below
     (λ i. took (get_elem? (map (λ p. p.core.seat) ports) i)) told in
     let many : length ports ≡ length ts = c.requires.all.0 ∙ ap (λ y. y.slots) (sym c.args.self.cells_are) ∙ long in
-    subst (λ l. AreDue g.K.Tie.names.roster (map (λ p. collected p.core.last.trace p.core.thread (taken p.core.seat)) ports) l past)
+    subst (λ l. AreDue g.K.Tie.names.roster (map (λ p. collected p.core.last.trace p.core.thread (taken p.core.seat))
+    ports) l past)
     (sym (c.without_places.ensures ∙ left_all c.close-left.result.items))
-    (all_due (λ p. p.core.seat) (λ p. collected p.core.last.trace p.core.thread (taken p.core.seat)) g.K.Tie.names.roster past left ports
+    (all_due (λ p. p.core.seat) (λ p. collected p.core.last.trace p.core.thread (taken p.core.seat))
+    g.K.Tie.names.roster past left ports
     many (λ t k p at is mine.
     let same = place_same ts p.core.thread t k (p.core_is.at ∙ ap Some (c.requires.all.1 k p at)) is in
     let extends =
-    subst (λ q. AreSeen q (map (λ p. p.core.seen.trace) ports)) c.traced.invariant.2 c.gather.ensures.seen k p.core.seen.trace
+    subst (λ q. AreSeen q (map (λ p. p.core.seen.trace) ports)) c.traced.invariant.2 c.gather.ensures.seen k
+    p.core.seen.trace
     (at_map (λ q. q.core.seen.trace) ports k p at) in
     let now = sym (returns-clause-asked g c t k is)
     ∙ at_port (λ q. q.core.seat) (λ q. []) g.K.Tie.names.roster past left (λ q. q.core.asked.calls) ports k p [] at in
     let o = h.told.owed t k is in
     port_due past p.core.seen.trace p.core.last.trace p.core.asked.calls p.core.thread t (taken p.core.seat)
-    (of_thread t left) p.core.turn.pending _ same extends p.core.since now p.core.calls_are p.core.later o.later o.whole mine) whole)
+    (of_thread t left) p.core.turn.pending _ same extends p.core.since now p.core.calls_are p.core.later o.later o.whole
+    mine) whole)
 
 pub returns-clause-seen : goal.returns-clause-seen
 returns-clause-seen g c =

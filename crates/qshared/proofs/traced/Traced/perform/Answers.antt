@@ -71,7 +71,8 @@ hand_out-requires-clause-place g c =
 
 pub invariant_of-self-in-Err : goal.invariant_of-self-in-Err
 invariant_of-self-in-Err g c =
-    let at : place (threads_of (members_of c.self.inside.kernel.threads)) c.args.turn.now.seat.thread ≡ Some c.index-place.result =
+    let at : place (threads_of (members_of c.self.inside.kernel.threads)) c.args.turn.now.seat.thread
+    ≡ Some c.index-place.result =
     subst (λ u. place (threads_of (roster_of u)) c.args.turn.now.seat.thread ≡ Some c.args.turn.now.seat.index)
     (sym c.self.view_is) c.requires.seat ∙ ap Some (sym c.index-place.ensures) in
     let up = sym c.is_down.ensures ∙ c.if-is_down.false in
@@ -91,7 +92,8 @@ invariant_of-self-in-Err g c =
 
 pub returns-in-Err-clause-performs : goal.returns-in-Err-clause-performs
 returns-in-Err-clause-performs g c =
-    let at : place (threads_of (members_of c.self.inside.kernel.threads)) c.args.turn.now.seat.thread ≡ Some c.index-place.result =
+    let at : place (threads_of (members_of c.self.inside.kernel.threads)) c.args.turn.now.seat.thread
+    ≡ Some c.index-place.result =
     subst (λ u. place (threads_of (roster_of u)) c.args.turn.now.seat.thread ≡ Some c.args.turn.now.seat.index)
     (sym c.self.view_is) c.requires.seat ∙ ap Some (sym c.index-place.ensures) in
     let up = sym c.is_down.ensures ∙ c.if-is_down.false in
@@ -140,7 +142,8 @@ event-requires-clause-lawful g c =
 
 pub event-requires-clause-thread : goal.event-requires-clause-thread
 event-requires-clause-thread g c =
-    let at : place (threads_of (members_of c.self.inside.kernel.threads)) c.args.turn.now.seat.thread ≡ Some c.index-place.result =
+    let at : place (threads_of (members_of c.self.inside.kernel.threads)) c.args.turn.now.seat.thread
+    ≡ Some c.index-place.result =
     subst (λ u. place (threads_of (roster_of u)) c.args.turn.now.seat.thread ≡ Some c.args.turn.now.seat.index)
     (sym c.self.view_is) c.requires.seat ∙ ap Some (sym c.index-place.ensures) in
     let up = sym c.is_down.ensures ∙ c.if-is_down.false in
@@ -158,14 +161,16 @@ pub event-requires-clause-answers : goal.event-requires-clause-answers
 event-requires-clause-answers g c =
     let same = c.note.ensures.same in
     rw (c.deref.ensures, same.1 ∙ c.self.invariant.0, same.0, c.in_default.ensures.noted.0)
-    (c.make_at.ensures.event (members_of c.self.inside.kernel.threads) (g.L.Log.past c.self.inside.log) c.self.invariant.1.told.lawful
+    (c.make_at.ensures.event (members_of c.self.inside.kernel.threads) (g.L.Log.past c.self.inside.log)
+    c.self.invariant.1.told.lawful
     c.self.invariant.1.told.matches).0
 
 pub hand_out-requires-clause-apart : goal.hand_out-requires-clause-apart
 hand_out-requires-clause-apart g c =
     let event : AnswersAtTraces c.self.inside.kernel c.args.turn.now.seat.thread c.args.call.now
     c.make_at.new.completions.items c.make_at.new.kernel = c.make_at.ensures.event in
-    let at : place (threads_of (members_of c.self.inside.kernel.threads)) c.args.turn.now.seat.thread ≡ Some c.index-place.result =
+    let at : place (threads_of (members_of c.self.inside.kernel.threads)) c.args.turn.now.seat.thread
+    ≡ Some c.index-place.result =
     subst (λ u. place (threads_of (roster_of u)) c.args.turn.now.seat.thread ≡ Some c.args.turn.now.seat.index)
     (sym c.self.view_is) c.requires.seat ∙ ap Some (sym c.index-place.ensures) in
     let up = sym c.is_down.ensures ∙ c.if-is_down.false in
@@ -179,7 +184,8 @@ pub hand_out-requires-clause-may : goal.hand_out-requires-clause-may
 hand_out-requires-clause-may g c =
     let event : AnswersAtTraces c.self.inside.kernel c.args.turn.now.seat.thread c.args.call.now
     c.make_at.new.completions.items c.make_at.new.kernel = c.make_at.ensures.event in
-    let at : place (threads_of (members_of c.self.inside.kernel.threads)) c.args.turn.now.seat.thread ≡ Some c.index-place.result =
+    let at : place (threads_of (members_of c.self.inside.kernel.threads)) c.args.turn.now.seat.thread
+    ≡ Some c.index-place.result =
     subst (λ u. place (threads_of (roster_of u)) c.args.turn.now.seat.thread ≡ Some c.args.turn.now.seat.index)
     (sym c.self.view_is) c.requires.seat ∙ ap Some (sym c.index-place.ensures) in
     let up = sym c.is_down.ensures ∙ c.if-is_down.false in
@@ -195,7 +201,8 @@ pub invariant_of-self-2 : goal.invariant_of-self-2
 invariant_of-self-2 g c =
     let event : AnswersAtTraces c.self.inside.kernel c.args.turn.now.seat.thread c.args.call.now
     c.make_at.new.completions.items c.make_at.new.kernel = c.make_at.ensures.event in
-    let at : place (threads_of (members_of c.self.inside.kernel.threads)) c.args.turn.now.seat.thread ≡ Some c.index-place.result =
+    let at : place (threads_of (members_of c.self.inside.kernel.threads)) c.args.turn.now.seat.thread
+    ≡ Some c.index-place.result =
     subst (λ u. place (threads_of (roster_of u)) c.args.turn.now.seat.thread ≡ Some c.args.turn.now.seat.index)
     (sym c.self.view_is) c.requires.seat ∙ ap Some (sym c.index-place.ensures) in
     let up = sym c.is_down.ensures ∙ c.if-is_down.false in
@@ -231,7 +238,8 @@ pub returns-clause-performs : goal.returns-clause-performs
 returns-clause-performs g c =
     let event : AnswersAtTraces c.self.inside.kernel c.args.turn.now.seat.thread c.args.call.now
     c.make_at.new.completions.items c.make_at.new.kernel = c.make_at.ensures.event in
-    let at : place (threads_of (members_of c.self.inside.kernel.threads)) c.args.turn.now.seat.thread ≡ Some c.index-place.result =
+    let at : place (threads_of (members_of c.self.inside.kernel.threads)) c.args.turn.now.seat.thread
+    ≡ Some c.index-place.result =
     subst (λ u. place (threads_of (roster_of u)) c.args.turn.now.seat.thread ≡ Some c.args.turn.now.seat.index)
     (sym c.self.view_is) c.requires.seat ∙ ap Some (sym c.index-place.ensures) in
     let up = sym c.is_down.ensures ∙ c.if-is_down.false in
@@ -281,7 +289,8 @@ pub hand_out-requires-clause-arrive : goal.hand_out-requires-clause-arrive
 hand_out-requires-clause-arrive g c =
     let event : AnswersAtTraces c.self.inside.kernel c.args.turn.now.seat.thread c.args.call.now
     c.make_at.new.completions.items c.make_at.new.kernel = c.make_at.ensures.event in
-    let at : place (threads_of (members_of c.self.inside.kernel.threads)) c.args.turn.now.seat.thread ≡ Some c.index-place.result =
+    let at : place (threads_of (members_of c.self.inside.kernel.threads)) c.args.turn.now.seat.thread
+    ≡ Some c.index-place.result =
     subst (λ u. place (threads_of (roster_of u)) c.args.turn.now.seat.thread ≡ Some c.args.turn.now.seat.index)
     (sym c.self.view_is) c.requires.seat ∙ ap Some (sym c.index-place.ensures) in
     let up = sym c.is_down.ensures ∙ c.if-is_down.false in
