@@ -11,7 +11,9 @@ use qscript_text::grammar::{FLAGS, Form, OperandKind, errno_of, fault_of};
 use qscript_text::lexing::token::{Token, TokenKind};
 use qscript_text::near::{near_call, quotation};
 use qscript_text::place::fault_at;
+use qscript_text::reading::bytes::MOST_REPEATS;
 use qscript_text::reading::call::is;
+use qscript_text::reading::number::digits;
 use qscript_text::word::Word;
 use std::alloc::{AllocError, Global};
 use words::{BytesHint, ExtraHint, MeantCall, OperandHint, UnknownCall};
@@ -86,6 +88,11 @@ pub fn refuse_comment(tokens: &[Token<'_>]) -> NamesRead<()> {
 
 /// Returns the hint about a word that isn't valid bytes, where a text in quotes is valid too.
 pub fn bytes_hint(word: &[u8]) -> Option<BytesHint> {
+    if let Some(count) = digits(word)
+        && count <= MOST_REPEATS
+    {
+        return Some(BytesHint::Zeros(count as u64));
+    }
     match word {
         [b'0', b'x' | b'X', ..] => Some(BytesHint::Prefix),
         [b'\'', ..] => Some(BytesHint::SingleQuotes),

@@ -2,7 +2,8 @@
 
 use crate::difference::Difference;
 use crate::hints::words::{
-    BytesHint, ExpectedError, ExpectedNumber, ExpectedOperand, ExtraHint, UnknownCall,
+    BytesHint, ExpectedError, ExpectedNumber, ExpectedOperand, ExtraHint, ForeignWord, UnknownCall,
+    UnknownCompletion, flags_of,
 };
 use crate::line::LineKind;
 use qmodel::kind::CallKind;
@@ -25,8 +26,8 @@ pub enum NamesFault {
     Found(FoundToken, NamesExpected),
     /// A line begins like a comment of another language.
     Comment,
-    /// The line of a thread after a call.
-    LateThread,
+    /// The line of a thread after a call. It has the line of the first call, if that is known.
+    LateThread(Option<u64>),
     /// The line of a thread that has neither a name nor a number.
     NamelessThread,
     /// The line of a thread that has so many words after `thread`.
@@ -35,10 +36,14 @@ pub enum NamesFault {
     Missing(MissingPart),
     /// A call of this form has no caller.
     NoCaller(Form),
+    /// A call is written like `server.receive(ch`: its thread and its form.
+    Dotted(Word, Form),
+    /// A line with a state lacks `is`. It has the right line.
+    NoIs(Word),
     /// A call has too few or too many operands.
     Operands(OperandCount, Option<ExtraHint>),
     Call(UnknownCall),
-    Completion(UnknownWord),
+    Completion(UnknownCompletion),
     Error(UnknownWord, ExpectedError),
     /// A word that isn't a flag, and the sum of the flags that are meant, if that is known.
     Flag(UnknownWord, Option<i32>),
@@ -56,11 +61,13 @@ impl Drop for NamesFault {
             NamesFault::Text(_)
             | NamesFault::Found(_, _)
             | NamesFault::Comment
-            | NamesFault::LateThread
+            | NamesFault::LateThread(_)
             | NamesFault::NamelessThread
             | NamesFault::ThreadWords(_)
             | NamesFault::Missing(_)
             | NamesFault::NoCaller(_)
+            | NamesFault::Dotted(_, _)
+            | NamesFault::NoIs(_)
             | NamesFault::Operands(_, _)
             | NamesFault::Call(_)
             | NamesFault::Completion(_)
@@ -80,24 +87,29 @@ pub enum NamesExpected {
     CallName,
     /// `thread`, which is misspelt.
     Thread,
+    /// `=`, which is written as `:=`.
+    Equals,
+    /// `=`, which is written twice.
+    OneEquals,
+    /// What a script has in the place of a word of another language.
+    Foreign(ForeignWord),
     /// A name that a line defines.
     Definition,
-    Arrow,
     Operand(ExpectedOperand),
     Bytes(Option<BytesHint>),
     /// The name or the number of a thing of this kind.
     Id(LineKind),
     /// The process of a thread.
     Process,
-    /// The state of a thread.
-    State,
+    /// The state of a thread, and the state that is meant, if that is known.
+    State(Option<&'static str>),
     /// `on`, and the channel of a state.
     OnChannel,
     /// Nothing, since the thread is ready.
     NoChannel,
     Number(ExpectedNumber),
     /// The bytes of a completion.
-    CompletionBytes,
+    CompletionBytes(Option<BytesHint>),
     /// The end of a completion.
     CompletionEnd,
     /// The state of a thread in a completion.
@@ -111,6 +123,8 @@ pub enum NamesExpected {
 pub enum MissingPart {
     /// A call, or its name.
     Call,
+    /// The name before `=`.
+    Name,
     /// The thread or the call after `=`.
     Definition,
     /// The completion after an arrow.
@@ -200,7 +214,7 @@ impl fmt::Display for NamesFault {
             NamesFault::Text(fault) => write!(f, "{fault}"),
             NamesFault::Found(found, expected) => write!(f, "{found}: {expected}"),
             NamesFault::Comment => f.write_str("a comment begins with #"),
-            NamesFault::LateThread => f.write_str("expected no thread's line after the first call"),
+            NamesFault::LateThread(first) => late_thread(*first, f),
             NamesFault::NamelessThread => f.write_str(
                 "the thread has neither a name nor a number: write 'NAME = thread PROCESS PRIORITY'",
             ),
@@ -212,12 +226,19 @@ impl fmt::Display for NamesFault {
             NamesFault::NoCaller(form) => {
                 write!(f, "expected the thread that makes the call: THREAD {form}")
             }
+            NamesFault::Dotted(thread, form) => {
+                write!(
+                    f,
+                    "expected a call without '.' and '(': write '{thread} {form}'"
+                )
+            }
+            NamesFault::NoIs(line) => write!(f, "expected 'is' before a state: write '{line}'"),
             NamesFault::Operands(count, hint) => {
                 let hint = hint.map_or("", |hint| hint.words());
                 write!(f, "{count}{hint}")
             }
             NamesFault::Call(call) => write!(f, "{call}"),
-            NamesFault::Completion(word) => unknown_completion(word, f),
+            NamesFault::Completion(completion) => write!(f, "{completion}"),
             NamesFault::Error(word, expected) => unknown_error(word, *expected, f),
             NamesFault::Flag(word, sum) => unknown_flag(word, *sum, f),
             NamesFault::Name(name) => write!(f, "{name}"),
@@ -232,6 +253,7 @@ impl MissingPart {
     fn words(self) -> &'static str {
         match self {
             MissingPart::Call => "expected a call: THREAD CALL OPERANDS",
+            MissingPart::Name => "expected a name before '='",
             MissingPart::Definition => "expected a thread or a call after '='",
             MissingPart::Completion => "expected a completion after '->', as in -> ok",
             MissingPart::Follower => "expected 'NAME -> COMPLETION' after ';'",
@@ -240,18 +262,12 @@ impl MissingPart {
     }
 }
 
-/// Writes an unknown word of a completion, with the word that is meant, or with all completions.
-fn unknown_completion<W: fmt::Write>(
-    unknown: &UnknownWord,
-    f: &mut fmt::Formatter<W>,
-) -> fmt::Result {
-    let word = &unknown.word;
-    match unknown.near {
-        Some(near) => write!(f, "'{word}' isn't a completion; did you mean '{near}'?"),
-        None => write!(
-            f,
-            "'{word}' isn't a completion; expected ok, fail, channel, connection, message, pulse, reply, error, count, state, info or blocked"
-        ),
+/// Writes the fault of a thread's line after a call, with the line of the first call.
+fn late_thread<W: fmt::Write>(first: Option<u64>, f: &mut fmt::Formatter<W>) -> fmt::Result {
+    f.write_str("expected no thread's line after the first call")?;
+    match first {
+        Some(line) => write!(f, ": move it above line {line}, the first call"),
+        None => Ok(()),
     }
 }
 
@@ -268,23 +284,24 @@ fn unknown_error<W: fmt::Write>(
     }
 }
 
-/// Writes an unknown word of a flag, with the flag that is meant or with all flags, and the sum of the flags.
+/// Writes an unknown word of a flag, with the flags of the sum that is meant, with the nearest flag, or with
+/// all flags.
 fn unknown_flag<W: fmt::Write>(
     unknown: &UnknownWord,
     sum: Option<i32>,
     f: &mut fmt::Formatter<W>,
 ) -> fmt::Result {
     let word = &unknown.word;
-    match unknown.near {
-        Some(near) => write!(f, "'{word}' isn't a flag; did you mean '{near}'?")?,
-        None => write!(
+    match (sum, unknown.near) {
+        (Some(sum), _) => {
+            let flags = flags_of(sum);
+            write!(f, "'{word}' isn't a flag; write {flags}")
+        }
+        (None, Some(near)) => write!(f, "'{word}' isn't a flag; did you mean '{near}'?"),
+        (None, None) => write!(
             f,
             "'{word}' isn't a flag; expected FIXED_PRIORITY, UNBLOCK and DISCONNECT, with | between, or 0 for none"
-        )?,
-    }
-    match sum {
-        Some(sum) => write!(f, ": write {sum}"),
-        None => Ok(()),
+        ),
     }
 }
 
@@ -299,18 +316,30 @@ fn plain_fault<W: fmt::Write>(fault: LineFault, f: &mut fmt::Formatter<W>) -> fm
     }
 }
 
+/// Writes the hint about a word that isn't valid bytes, if there is one.
+fn bytes_meant<W: fmt::Write>(hint: Option<BytesHint>, f: &mut fmt::Formatter<W>) -> fmt::Result {
+    match hint {
+        Some(hint) => write!(f, "{hint}"),
+        None => Ok(()),
+    }
+}
+
 impl fmt::Display for NamesExpected {
     fn fmt<W: fmt::Write>(&self, f: &mut fmt::Formatter<W>) -> fmt::Result {
         match self {
             NamesExpected::Operand(operand) => write!(f, "{operand}"),
             NamesExpected::Number(number) => write!(f, "{number}"),
             NamesExpected::Bytes(hint) => {
-                let hint = hint.map_or("", |hint| hint.words());
-                write!(
-                    f,
-                    "expected bytes: a text in quotes, [N] for N zeros, pairs of hexadecimal digits (0aff), up to 4,096 equal ones (16x00), or - for none{hint}"
-                )
+                f.write_str(
+                    "expected bytes: a text in quotes, [N] for N zeros, pairs of hexadecimal digits (0aff), up to 4,096 equal ones (16x00), or - for none",
+                )?;
+                bytes_meant(*hint, f)
             }
+            NamesExpected::CompletionBytes(hint) => {
+                f.write_str("expected bytes, or * for any")?;
+                bytes_meant(*hint, f)
+            }
+            NamesExpected::State(Some(near)) => write!(f, "did you mean '{near}'?"),
             NamesExpected::Id(kind) => {
                 let kind = kind.words();
                 write!(f, "expected {kind}'s name or number")
@@ -326,22 +355,24 @@ impl NamesExpected {
         match self {
             NamesExpected::CallName => "expected a call's name",
             NamesExpected::Thread => "did you mean 'thread'?",
+            NamesExpected::Equals => "write '=' for ':='",
+            NamesExpected::OneEquals => "write one '='",
+            NamesExpected::Foreign(word) => word.words(),
             NamesExpected::Definition =>
                 "expected a name other than 'thread': a letter or _, then letters, digits, '_', '-' and '.'",
-            NamesExpected::Arrow => "expected '->'",
             NamesExpected::Process => "expected a process's name, or a number from 0 to 255",
-            NamesExpected::State =>
+            NamesExpected::State(_) =>
                 "expected ready, SEND-blocked, RECEIVE-blocked, REPLY-blocked or blocked",
             NamesExpected::OnChannel => "expected nothing or 'on CHANNEL' after a state",
             NamesExpected::NoChannel =>
                 "expected nothing after 'ready': a ready thread isn't blocked on a channel",
-            NamesExpected::CompletionBytes => "expected bytes, or * for any",
             NamesExpected::CompletionEnd => "expected no more words in this completion",
             NamesExpected::CompletionState => "expected ready, send, receive or reply",
             NamesExpected::PulseContent => "expected user, unblock or disconnect",
             NamesExpected::Operand(_)
             | NamesExpected::Number(_)
             | NamesExpected::Bytes(_)
+            | NamesExpected::CompletionBytes(_)
             | NamesExpected::Id(_) => "",
         }
     }

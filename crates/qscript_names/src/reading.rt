@@ -3,6 +3,7 @@
 pub mod calls;
 pub mod completions;
 pub mod forms;
+pub mod mistakes;
 pub mod operands;
 pub mod results;
 pub mod script;

@@ -39,10 +39,8 @@ impl fmt::Display for TextFault {
                 "expected an escape: \\n, \\t, \\r, \\0, \\\", \\\\ or \\x with two hexadecimal digits",
             ),
             TextFault::Size(found) => {
-                write!(
-                    f,
-                    "{found}: expected a size from [0] to [4096], for so many bytes of zero"
-                )
+                let size = &found.quotation;
+                write!(f, "'[{size}]': expected [N], with N from 0 to 4,096")
             }
         }
     }
@@ -110,6 +108,10 @@ impl fmt::Display for FoundToken {
     fn fmt<W: fmt::Write>(&self, f: &mut fmt::Formatter<W>) -> fmt::Result {
         let FoundToken { sort, quotation } = self;
         match sort {
+            // A word in single quotes isn't quoted again.
+            TokenKind::Word if quotation.as_str().as_bytes().starts_with(b"'") => {
+                write!(f, "{quotation}")
+            }
             TokenKind::Word => write!(f, "'{quotation}'"),
             TokenKind::Text => f.write_str("a text in quotes"),
             TokenKind::Size => f.write_str("a size in brackets"),

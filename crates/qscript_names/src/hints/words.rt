@@ -85,6 +85,8 @@ impl fmt::Display for ExpectedOperand {
 /// A correction of a word that should be bytes or a text in quotes.
 #[derive(Clone, Copy)]
 pub enum BytesHint {
+    /// A decimal number, which may be meant as so many bytes of zero.
+    Zeros(u64),
     /// It begins with `0x`.
     Prefix,
     /// A text in single quotes.
@@ -93,13 +95,15 @@ pub enum BytesHint {
     NoQuotes,
 }
 
-impl BytesHint {
-    /// Returns the words of the hint, which come after the words of a fault.
-    pub fn words(self) -> &'static str {
+// The hint comes after the words of a fault.
+impl fmt::Display for BytesHint {
+    fn fmt<W: fmt::Write>(&self, f: &mut fmt::Formatter<W>) -> fmt::Result {
         match self {
-            BytesHint::Prefix => "; write them without 0x",
-            BytesHint::SingleQuotes => "; write a text in double quotes",
-            BytesHint::NoQuotes => "; write a text in quotes",
+            BytesHint::Zeros(1) => f.write_str("; write [1] for 1 byte of zero"),
+            BytesHint::Zeros(count) => write!(f, "; write [{count}] for {count} bytes of zero"),
+            BytesHint::Prefix => f.write_str("; write them without 0x"),
+            BytesHint::SingleQuotes => f.write_str("; write a text in double quotes"),
+            BytesHint::NoQuotes => f.write_str("; write a text in quotes"),
         }
     }
 }
@@ -115,6 +119,14 @@ pub enum ExtraHint {
     Flags,
     /// An expected completion, without its arrow.
     Completion,
+    /// An expected completion after `=>`, in a script with names.
+    WideArrow,
+    /// An expected completion after `- >`.
+    SplitArrow,
+    /// Flags without `|` between.
+    FlagSign,
+    /// A time.
+    NoClock,
     /// A comment of another language in a script with names.
     CommentSign,
     /// A text in single quotes.
@@ -130,6 +142,10 @@ impl ExtraHint {
             ExtraHint::Flags => "; write flags without spaces around |",
             ExtraHint::Completion =>
                 "; write the completion after ->, or in a design in an 'expect' below",
+            ExtraHint::WideArrow => "; write '->' for '=>'",
+            ExtraHint::SplitArrow => "; write '->' without a space",
+            ExtraHint::FlagSign => "; write flags with | between, as UNBLOCK|DISCONNECT",
+            ExtraHint::NoClock => "; a script has no clock: another thread makes 'unblock'",
             ExtraHint::CommentSign => "; a comment begins with #",
             ExtraHint::SingleQuotes => "; write a text in double quotes",
         }
@@ -138,6 +154,31 @@ impl ExtraHint {
 
 /// The advice about a word that would take time.
 pub const NO_CLOCK: &str = "a script has no clock: another thread makes 'unblock'";
+
+/// What a script has in the place of a word of another language.
+#[derive(Clone, Copy)]
+pub enum ForeignWord {
+    /// The result of a call, after its arrow.
+    Result,
+    /// The calls without conditions and loops.
+    Control,
+    /// The call `unblock`.
+    Clock,
+    /// The word `is`.
+    Is,
+}
+
+impl ForeignWord {
+    /// Returns the words about it, which come after the word itself.
+    pub fn words(self) -> &'static str {
+        match self {
+            ForeignWord::Result => "write the result after '->', in the line of its call",
+            ForeignWord::Control => "a script has no 'if' and no loop: write each call",
+            ForeignWord::Clock => NO_CLOCK,
+            ForeignWord::Is => "did you mean 'is'?",
+        }
+    }
+}
 
 /// The call that a word may be meant to name.
 #[derive(Clone, Copy)]
@@ -186,6 +227,62 @@ impl fmt::Display for UnknownCall {
                 }
                 Ok(())
             }
+        }
+    }
+}
+
+/// Returns the names of the flags with this sum.
+pub fn flags_of(sum: i32) -> &'static str {
+    match sum {
+        1 => "FIXED_PRIORITY",
+        2 => "UNBLOCK",
+        3 => "FIXED_PRIORITY|UNBLOCK",
+        4 => "DISCONNECT",
+        5 => "FIXED_PRIORITY|DISCONNECT",
+        6 => "UNBLOCK|DISCONNECT",
+        7 => "FIXED_PRIORITY|UNBLOCK|DISCONNECT",
+        _ => "0",
+    }
+}
+
+/// What a word that begins no completion may be meant to be.
+#[derive(Clone, Copy)]
+pub enum MeantCompletion {
+    /// The completion with this word.
+    Near(&'static str),
+    /// A failure with this error.
+    Fail(&'static str),
+    /// A message with these bytes.
+    Message,
+    /// A state of a thread.
+    State,
+    /// A completion before a comma.
+    Comma,
+    /// None of these.
+    Unknown,
+}
+
+/// A word that begins no completion.
+#[derive(Drop)]
+pub struct UnknownCompletion {
+    /// Its first bytes.
+    pub word: Word,
+    pub meant: MeantCompletion,
+}
+
+impl fmt::Display for UnknownCompletion {
+    fn fmt<W: fmt::Write>(&self, f: &mut fmt::Formatter<W>) -> fmt::Result {
+        let UnknownCompletion { word, meant } = self;
+        write!(f, "'{word}' isn't a completion; ")?;
+        match meant {
+            MeantCompletion::Near(near) => write!(f, "did you mean '{near}'?"),
+            MeantCompletion::Fail(error) => write!(f, "write fail {error}"),
+            MeantCompletion::Message => write!(f, "write message NAME \"{word}\""),
+            MeantCompletion::State => write!(f, "write state {word}"),
+            MeantCompletion::Comma => f.write_str("separate results by ';'"),
+            MeantCompletion::Unknown => f.write_str(
+                "expected ok, fail, channel, connection, message, pulse, reply, error, count, state, info or blocked",
+            ),
         }
     }
 }

@@ -56,7 +56,7 @@ fn follower(
         return Err(expected(alloc, name, NamesExpected::CallName));
     }
     if arrow.sort != TokenKind::Arrow {
-        return Err(expected(alloc, arrow, NamesExpected::Arrow));
+        return Err(missing(name.place, MissingPart::Follower));
     }
     Ok(Follower {
         name: word_of(alloc, name.bytes)?,

@@ -3,8 +3,8 @@
 ghost use Rattle.std.specs.Prelude.{◌≤◌, length};
 
 use crate::expectation::{BufferPattern, ExpectedCompletion, NumberPattern, ResultPattern};
-use crate::hints::words::{ExpectedError, ExpectedNumber};
-use crate::hints::{code_meant, error_meant};
+use crate::hints::words::{ExpectedError, ExpectedNumber, MeantCompletion, UnknownCompletion};
+use crate::hints::{bytes_hint, code_meant, error_meant};
 use crate::line::{LineKind, Operand};
 use crate::names_fault::{NamesExpected, NamesFault, NamesRead, expected, of_text};
 use crate::reading::forms::{
@@ -20,10 +20,13 @@ use qscript_text::grammar::{CALL_ERRORS, OperandKind as Slot, errno_of};
 use qscript_text::lexing::name::is_name;
 use qscript_text::lexing::token::{Token, TokenKind};
 use qscript_text::lexing::values::{size_of, text_bytes, word_of};
+use qscript_text::near::{nearest, quotation};
 use qscript_text::place::fault_at;
 use qscript_text::reading::bytes::bytes_said;
+use qscript_text::reading::call::is;
 use qscript_text::reading::number::signed_number;
 use qscript_text::text_fault::UnknownWord;
+use qscript_text::word::Word;
 use std::alloc::{AllocError, Global};
 
 fn number(alloc: Global, token: &Token<'_>) -> NamesRead<NumberPattern> {
@@ -77,7 +80,11 @@ fn bytes(alloc: Global, token: &Token<'_>) -> NamesRead<Bytes> {
         TokenKind::Word => bytes_said(alloc, token.bytes),
         _ => Err(ParseError::Memory),
     };
-    said.map_err(|_| expected(alloc, token, NamesExpected::CompletionBytes))
+    let hint = bytes_hint(token.bytes);
+    match said {
+        Ok(bytes) => Ok(bytes),
+        Err(_) => Err(expected(alloc, token, NamesExpected::CompletionBytes(hint))),
+    }
 }
 
 impl ResultPattern {
@@ -201,11 +208,47 @@ fn pulse(alloc: Global, kind: ResultKind, tokens: &[Token<'_>]) -> NamesRead<Res
     Ok(pattern)
 }
 
+/// Returns the completion that a word is meant to begin. Case doesn't matter, and the word may have a comma
+/// at its end.
+fn near_completion(alloc: Global, word: &[u8]) -> Result<MeantCompletion, AllocError> {
+    let (word, same) = match word {
+        [front @ .., b','] => (front, Some(MeantCompletion::Comma)),
+        word => (word, None),
+    };
+    let small = quotation(word).to_ascii_lowercase(alloc)?;
+    let mut words = Vec::new(alloc);
+    for (first, _, _) in &FORMS {
+        if is(small.as_str().as_bytes(), first) {
+            return Ok(same.unwrap_or(MeantCompletion::Near(first)));
+        }
+        words.push(*first)?;
+    }
+    match nearest(alloc, small.as_str(), words.as_slice())? {
+        Some(near) => Ok(MeantCompletion::Near(near)),
+        None => Ok(MeantCompletion::Unknown),
+    }
+}
+
+/// Returns what a first word that no result has is meant to be.
+fn completion_meant(alloc: Global, token: &Token<'_>) -> Result<MeantCompletion, AllocError> {
+    if token.sort == TokenKind::Text {
+        return Ok(MeantCompletion::Message);
+    }
+    if form_of(&STATES, token).is_some() {
+        return Ok(MeantCompletion::State);
+    }
+    match error_meant(alloc, token.bytes)? {
+        Some(error) => Ok(MeantCompletion::Fail(error)),
+        None => near_completion(alloc, token.bytes),
+    }
+}
+
 /// Returns the fault of a first word that no result has.
 fn unknown_completion(alloc: Global, token: &Token<'_>) -> Result<NamesFault, AllocError> {
-    let words: Vec<&'static str> = FORMS.iter().map(|(word, _, _)| *word).collect(alloc)?;
-    let unknown = UnknownWord::of(alloc, token.bytes, words.as_slice())?;
-    Ok(NamesFault::Completion(unknown))
+    Ok(NamesFault::Completion(UnknownCompletion {
+        word: Word::of(alloc, quotation(token.bytes))?,
+        meant: completion_meant(alloc, token)?,
+    }))
 }
 
 /// Reads the expected result of a call.

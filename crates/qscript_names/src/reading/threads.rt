@@ -9,11 +9,12 @@ use qscript_text::grammar::OperandKind as Slot;
 use qscript_text::lexing::name::is_name;
 use qscript_text::lexing::token::{Token, TokenKind};
 use qscript_text::lexing::values::word_of;
+use qscript_text::near::{nearest, quotation};
 use qscript_text::place::{Place, fault_at};
 use qscript_text::reading::number;
 use qscript_text::reading::number::small;
 use qscript_text::word::Word;
-use std::alloc::Global;
+use std::alloc::{AllocError, Global};
 
 /// Reads the number of a thread, if its line gives one.
 fn thread_number(alloc: Global, token: &Token<'_>) -> NamesRead<u64> {
@@ -84,11 +85,36 @@ static STATES: [&str; 5] = [
     "blocked",
 ];
 
+/// Returns the state that a word means: the state with its letters, where case doesn't matter, or the nearest
+/// one.
+fn state_meant(alloc: Global, word: &[u8]) -> Result<Option<&'static str>, AllocError> {
+    let mut letters = Vec::new(alloc);
+    for byte in word {
+        if byte.is_ascii_alphabetic() {
+            letters.push(byte.to_ascii_lowercase())?;
+        }
+    }
+    match letters.as_slice() {
+        b"ready" => Ok(Some("ready")),
+        b"sendblocked" => Ok(Some("SEND-blocked")),
+        b"receiveblocked" => Ok(Some("RECEIVE-blocked")),
+        b"replyblocked" => Ok(Some("REPLY-blocked")),
+        b"blocked" => Ok(Some("blocked")),
+        _ => nearest(alloc, quotation(word), &STATES),
+    }
+}
+
 /// Reads the name of a state.
 fn state(alloc: Global, token: &Token<'_>) -> NamesRead<&'static str> {
     let mut states = STATES.iter().copied();
     let said = states.find(|state| token.is_word(state));
-    said.ok_or_else(|| expected(alloc, token, NamesExpected::State))
+    match said {
+        Some(state) => Ok(state),
+        None => {
+            let near = state_meant(alloc, token.bytes)?;
+            Err(expected(alloc, token, NamesExpected::State(near)))
+        }
+    }
 }
 
 /// Reads the channel after `on`, if there is one.
