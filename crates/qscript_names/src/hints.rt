@@ -89,6 +89,7 @@ pub fn refuse_comment(tokens: &[Token<'_>]) -> NamesRead<()> {
 /// Returns the hint about a word that isn't valid bytes, where a text in quotes is valid too.
 pub fn bytes_hint(word: &[u8]) -> Option<BytesHint> {
     if let Some(count) = digits(word)
+        && count >= 1
         && count <= MOST_REPEATS
     {
         return Some(BytesHint::Zeros(count as u64));

@@ -108,6 +108,31 @@ impl fmt::Display for BytesHint {
     }
 }
 
+/// What a script has in the place of a word of another language.
+#[derive(Clone, Copy)]
+pub enum ForeignWord {
+    /// The result of a call, after its arrow.
+    Result,
+    /// The calls without conditions and loops.
+    Control,
+    /// The call `unblock`.
+    Clock,
+    /// The word `is`.
+    Is,
+}
+
+impl ForeignWord {
+    /// Returns the words about it, which come after the word itself.
+    pub fn words(self) -> &'static str {
+        match self {
+            ForeignWord::Result => "write the result after '->', in the line of its call",
+            ForeignWord::Control => "a script has no 'if' and no loop: write each call",
+            ForeignWord::Clock => NO_CLOCK,
+            ForeignWord::Is => "did you mean 'is'?",
+        }
+    }
+}
+
 /// The text that a superfluous word of a line probably belongs to.
 #[derive(Clone, Copy)]
 pub enum ExtraHint {
@@ -154,31 +179,6 @@ impl ExtraHint {
 
 /// The advice about a word that would take time.
 pub const NO_CLOCK: &str = "a script has no clock: another thread makes 'unblock'";
-
-/// What a script has in the place of a word of another language.
-#[derive(Clone, Copy)]
-pub enum ForeignWord {
-    /// The result of a call, after its arrow.
-    Result,
-    /// The calls without conditions and loops.
-    Control,
-    /// The call `unblock`.
-    Clock,
-    /// The word `is`.
-    Is,
-}
-
-impl ForeignWord {
-    /// Returns the words about it, which come after the word itself.
-    pub fn words(self) -> &'static str {
-        match self {
-            ForeignWord::Result => "write the result after '->', in the line of its call",
-            ForeignWord::Control => "a script has no 'if' and no loop: write each call",
-            ForeignWord::Clock => NO_CLOCK,
-            ForeignWord::Is => "did you mean 'is'?",
-        }
-    }
-}
 
 /// The call that a word may be meant to name.
 #[derive(Clone, Copy)]

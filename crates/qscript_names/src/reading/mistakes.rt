@@ -114,7 +114,9 @@ fn dotted(alloc: Global, word: &[u8]) -> Result<Option<(Word, Form)>, AllocError
         return Ok(None);
     };
     match form_meant(alloc, call)? {
-        Some(form) if is_name(thread) => { Ok(Some((Word::of(alloc, quotation(thread))?, form))) }
+        Some(form) if is_name(thread) && word.contains(&b'(') => {
+            Ok(Some((Word::of(alloc, quotation(thread))?, form)))
+        }
         _ => Ok(None),
     }
 }
