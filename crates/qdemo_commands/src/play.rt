@@ -207,7 +207,7 @@ impl<R: Files + Input + Print + Eprint + AllocGlobal> Play<'_, R> {
                 self.print(printed.as_slice())?;
                 self.tell_typed(faults.as_slice(), &[])?;
                 if self.terminal {
-                    self.tell_odd_buffer(line)?;
+                    self.tell_odd_buffer(without_end(line))?;
                     self.tell_more()?;
                 }
             }
