@@ -151,8 +151,8 @@ fn plain_drawing<R: Eprint + AllocGlobal>(
     Ok(drawn)
 }
 
-/// Ends the program for a faulty plain script, and prints its first fault. Of a text of another kind the right
-/// command is named instead.
+/// Ends the program for a faulty plain script, and prints its first fault. For a text of another kind the
+/// right command is named instead.
 fn end_undrawn<R: Eprint + AllocGlobal>(rt: &R, source: FaultSource<'_>) -> ExitCode {
     let file = source.file.unwrap_or("-");
     if let Some(other) = OtherKind::of(file, source.text, TextKind::Plain) {

@@ -111,7 +111,7 @@ fn print_outcome<R: Print + Eprint + AllocGlobal>(
 }
 
 /// Ends the program for these faults of a script with names, and prints them. With `--json` they are also
-/// printed as objects. Of a file of another kind the right command is named instead.
+/// printed as objects. For a file of another kind the right command is named instead.
 fn end_named<R: Print + Eprint + AllocGlobal>(
     rt: &R,
     run: &ScriptRun,

@@ -129,7 +129,8 @@ impl<R: Files + Input + Print + Eprint + AllocGlobal> Play<'_, R> {
         }
     }
 
-    /// Names the command that reads a faulty text if it is of another kind than `read`. Returns whether it is.
+    /// Names the command that reads a faulty text, if this is of another kind than `read`. Returns whether it
+    /// is.
     fn tell_other(&self, name: &str, text: &[u8], read: TextKind) -> bool {
         let other = OtherKind::of(name, text, read);
         if let Some(other) = other {

@@ -171,8 +171,8 @@ fn fault_lines(alloc: Global, run: &ScriptRun, text: &[u8]) -> Result<String, Al
 
 /// Ends the program for a script that has no run, and prints why. If explanations are requested, or on a
 /// terminal, its faults are explained. Otherwise only the first fault is printed, with its place if the
-/// script has a file. With `--json` the faults are also printed as objects. Of a file of another kind the right
-/// command is named instead.
+/// script has a file. With `--json` the faults are also printed as objects. For a file of another kind the
+/// right command is named instead.
 fn end_faulty<R: Print + Eprint + AllocGlobal, S>(
     rt: &R,
     run: &ScriptRun,
