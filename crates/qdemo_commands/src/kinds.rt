@@ -131,7 +131,7 @@ impl fmt::Display for NoLine<'_> {
         let file = self.0;
         write!(
             f,
-            "{file}: no line of a script; its first line is 'thread THREAD PROCESS PRIORITY'"
+            "{file}: no line of a script; expected a line 'thread THREAD PROCESS PRIORITY'"
         )
     }
 }
