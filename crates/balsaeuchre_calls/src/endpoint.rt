@@ -153,20 +153,20 @@ impl<'a, K: Tie, L: Log> KernelPort<'a, K, L> {
 
     /// Returns the prefix of the history that the port has seen.
     pub(crate) fn seen(&self) -> ObservedPrefix<K>
-        ensures { result ≡ self.now.port.seen.trace }
+        ensures { result ≡ self.now.port.core.seen.trace }
     {
         self.port.seen()
     }
 
     /// Learns the prefix that another port of the kernel has seen.
     pub(crate) fn learn(&mut self, other: &ObservedPrefix<K>)
-        ensures own { Extends self.new.port.seen.trace self.old.port.seen.trace }
-        ensures others { Extends self.new.port.seen.trace other.entry.now }
+        ensures own { Extends self.new.port.core.seen.trace self.old.port.core.seen.trace }
+        ensures others { Extends self.new.port.core.seen.trace other.entry.now }
         ensures taken { collected_by self.new.port ≡ collected_by self.old.port }
-        ensures same { (self.new.port.thread ≡ self.old.port.thread)
-            × (self.new.port.asked ≡ self.old.port.asked) × (self.new.port.seat ≡ self.old.port.seat)
-            × (self.new.port.scratch.pending ≡ self.old.port.scratch.pending)
-            × (self.new.port.last ≡ self.old.port.last) × (self.new.told ≡ self.old.told) }
+        ensures same { (self.new.port.core.thread ≡ self.old.port.core.thread)
+            × (self.new.port.core.asked ≡ self.old.port.core.asked) × (self.new.port.core.seat ≡ self.old.port.core.seat)
+            × (self.new.port.core.turn.pending ≡ self.old.port.core.turn.pending)
+            × (self.new.port.core.last ≡ self.old.port.core.last) × (self.new.told ≡ self.old.told) }
     {
         self.port.learn(other);
     }
@@ -197,27 +197,27 @@ impl<'a, K: Tie, L: Log> Endpoint for KernelPort<'a, K, L> {
     ghost use Rattle.qshared.specs.TwoCalls.{AnsweredBoth};
 
     ghost history = { λ p. record {
-      asked = p.port.asked.calls;
+      asked = p.port.core.asked.calls;
       taken = collected_by p.port;
-      pending = p.port.scratch.pending;
+      pending = p.port.core.turn.pending;
       told = p.told;
     } };
 
-    ghost seen = { λ p. p.port.seen.trace };
+    ghost seen = { λ p. p.port.core.seen.trace };
 
     ghost came = { λ p c a after. (
-        AtPast K.names.roster p.port.thread p.port.asked.calls p.port.seen.trace
-        (λ past. Answered K.names.roster L.refuses L.admits p.port.thread c a past after)) };
+        AtPast K.names.roster p.port.core.thread p.port.core.asked.calls p.port.core.seen.trace
+        (λ past. Answered K.names.roster L.refuses L.admits p.port.core.thread c a past after)) };
 
     ghost came_both = { λ p c d a after. (
-        AtPast K.names.roster p.port.thread p.port.asked.calls p.port.seen.trace
-        (λ past. AnsweredBoth K.names.roster L.refuses L.admits p.port.thread c d a past after)) };
+        AtPast K.names.roster p.port.core.thread p.port.core.asked.calls p.port.core.seen.trace
+        (λ past. AnsweredBoth K.names.roster L.refuses L.admits p.port.core.thread c d a past after)) };
 
     ghost waited = { λ p x after. (
-        IsAwaited K.names.roster p.port.thread p.port.asked.calls p.port.last.trace x after) };
+        IsAwaited K.names.roster p.port.core.thread p.port.core.asked.calls p.port.core.last.trace x after) };
 
     ghost awaited = { λ p calls was x after. (
-        IsAwaited K.names.roster p.port.thread (p.port.asked.calls ++ calls) was x after) };
+        IsAwaited K.names.roster p.port.core.thread (p.port.core.asked.calls ++ calls) was x after) };
 
     fn thread(&self) -> ThreadNo {
         self.port.thread()

@@ -52,21 +52,21 @@ impl<'a, 'p, K: Tie, L: Log, R: Wait> Caller<'a, KernelPort<'p, K, L>, R> {
     /// it has learned since. The prefix has no bytes, so a program can send it to another thread together
     /// with a message of its own.
     pub fn seen(&self) -> ObservedPrefix<K>
-        ensures { result ≡ self.now.endpoint.port.seen.trace }
+        ensures { result ≡ self.now.endpoint.port.core.seen.trace }
     {
         self.endpoint.seen()
     }
 
     /// Learns the prefix that another caller has seen, so that the next call is known to come after it.
     pub fn learn(&mut self, other: &ObservedPrefix<K>)
-        ensures own { Extends self.new.endpoint.port.seen.trace self.old.endpoint.port.seen.trace }
-        ensures others { Extends self.new.endpoint.port.seen.trace other.entry.now }
+        ensures own { Extends self.new.endpoint.port.core.seen.trace self.old.endpoint.port.core.seen.trace }
+        ensures others { Extends self.new.endpoint.port.core.seen.trace other.entry.now }
         ensures taken { collected_by self.new.endpoint.port ≡ collected_by self.old.endpoint.port }
-        ensures same { (self.new.endpoint.port.thread ≡ self.old.endpoint.port.thread)
-            × (self.new.endpoint.port.asked ≡ self.old.endpoint.port.asked)
-            × (self.new.endpoint.port.seat ≡ self.old.endpoint.port.seat)
-            × (self.new.endpoint.port.scratch.pending ≡ self.old.endpoint.port.scratch.pending)
-            × (self.new.endpoint.port.last ≡ self.old.endpoint.port.last)
+        ensures same { (self.new.endpoint.port.core.thread ≡ self.old.endpoint.port.core.thread)
+            × (self.new.endpoint.port.core.asked ≡ self.old.endpoint.port.core.asked)
+            × (self.new.endpoint.port.core.seat ≡ self.old.endpoint.port.core.seat)
+            × (self.new.endpoint.port.core.turn.pending ≡ self.old.endpoint.port.core.turn.pending)
+            × (self.new.endpoint.port.core.last ≡ self.old.endpoint.port.core.last)
             × (self.new.endpoint.told ≡ self.old.endpoint.told) }
     {
         self.endpoint.learn(other);
@@ -121,14 +121,14 @@ pub fn close<K: Tie>(
     ensures within { IfOk result (λ trace. length trace.events ≤ K.names.limit) }
     ensures sum { IfOk result (λ trace. sum (map (λ p. p.calls) ports.items) ≡ length trace.events) }
     ensures asked { IfOk result
-        (λ trace. AreCallsOf K.names.roster (map (λ p. p.asked.calls) ports.items)
+        (λ trace. AreCallsOf K.names.roster (map (λ p. p.core.asked.calls) ports.items)
         (followed_by [] trace.events)) }
     ensures seen { IfOk result
-        (λ trace. AreSeen (followed_by [] trace.events) (map (λ p. p.seen.trace) ports.items)) }
+        (λ trace. AreSeen (followed_by [] trace.events) (map (λ p. p.core.seen.trace) ports.items)) }
     ensures due { IfOk result
         (λ trace. IsDue K.names.roster (map collected_by ports.items) (followed_by [] trace.events)) }
     ensures error { IfErr result
-        (λ e. (e ≡ error.Unexpected) × ¬ (AreAll (λ p. thread_of p.seat) K.names.cells.slots ports.items)) }
+        (λ e. (e ≡ error.Unexpected) × ¬ (AreAll (λ p. thread_of p.core.seat) K.names.cells.slots ports.items)) }
 {
     if !shared.all(ports.as_slice()) {
         return Err(CallError::Unexpected);

@@ -43,7 +43,7 @@ pub fn ask<'a, 'p, K: Tie, L: Log, R: Wait>(
         (⟦<KernelPort<'p, K, L> as Endpoint>⟧.history client.old.endpoint)
         (⟦<KernelPort<'p, K, L> as Endpoint>⟧.history client.new.endpoint) (Ok note.answer)) }
     ensures answered { IfOk result
-        (λ note. HasReturned reply_in client.old.endpoint.port.thread
+        (λ note. HasReturned reply_in client.old.endpoint.port.core.thread
         (calls.Send coid message.now (replicate 8 0)) note.answer note.seen) }
 {
     let answer = client.msg_send(coid, message, 8)?;
@@ -62,11 +62,11 @@ fn look<'a, 'p, K: Tie, L: Log, R: Wait>(
     thread: ThreadNo,
 ) -> Result<ThreadStatus>
     ensures { ComesOf (λ e. ⟦<KernelPort<'p, K, L> as Endpoint>⟧.history e)
-        (λ e c a after. AtPast K.names.roster e.port.thread e.port.asked.calls e.port.seen.trace
+        (λ e c a after. AtPast K.names.roster e.port.core.thread e.port.core.asked.calls e.port.core.seen.trace
         (AfterAnswer reply_in note.now.answer note.now.seen
-        (λ past. Answered K.names.roster L.refuses L.admits e.port.thread c a past after)))
+        (λ past. Answered K.names.roster L.refuses L.admits e.port.core.thread c a past after)))
         ⟦<KernelPort<'p, K, L> as Endpoint>⟧.awaited other.old.endpoint (calls.State thread)
-        other.new.endpoint.port.seen.trace
+        other.new.endpoint.port.core.seen.trace
         (⟦<KernelPort<'p, K, L> as Endpoint>⟧.history other.new.endpoint) }
 {
     other.learn(&note.seen);

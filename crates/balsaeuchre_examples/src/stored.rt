@@ -49,11 +49,11 @@ fn get<'a, 'p, K: Tie, L: Log, R: Wait>(
     coid: ConnectionId,
 ) -> Result<Reply>
     ensures { IfOk result (λ _. ComesOf (λ e. ⟦<KernelPort<'p, K, L> as Endpoint>⟧.history e)
-        (λ e c a after. AtPast K.names.roster e.port.thread e.port.asked.calls e.port.seen.trace
+        (λ e c a after. AtPast K.names.roster e.port.core.thread e.port.core.asked.calls e.port.core.seen.trace
         (AfterAnswer reply_in note.now.answer note.now.seen
-        (λ past. Answered K.names.roster L.refuses L.admits e.port.thread c a past after)))
+        (λ past. Answered K.names.roster L.refuses L.admits e.port.core.thread c a past after)))
         ⟦<KernelPort<'p, K, L> as Endpoint>⟧.awaited reader.old.endpoint
-        (calls.Send coid [] (replicate 1 0)) reader.new.endpoint.port.seen.trace
+        (calls.Send coid [] (replicate 1 0)) reader.new.endpoint.port.core.seen.trace
         (⟦<KernelPort<'p, K, L> as Endpoint>⟧.history reader.new.endpoint)) }
 {
     reader.learn(&note.seen);

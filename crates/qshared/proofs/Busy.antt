@@ -1,10 +1,11 @@
 -- The reason for which a call is refused as Busy.
-use Rattle.qshared.proofs.Common.{◌≡◌, refl, ap, Busy, Option, None, Some, Call, Completion, outcome}
+use Rattle.qshared.proofs.Common.{◌≡◌, ◌⊎◌, inl, inr, refl, ap, Busy, Option, None, Some, Call, Completion, outcome}
 use Rattle.std.specs.Prelude.{⊤, Bool, Result, Ok, Err, IfErr, is_ok}
 use Rattle.qshared.specs.Performing.{called_by, pends_with}
 use Rattle.qbase.specs.declared.errno.Errno.{Errno}
 use Rattle.qshared.specs.Counting.{OnBusy, is_call, pends}
-use Rattle.qshared.specs.declared.called.Called.TheVariants.{Refused}
+use Rattle.qshared.specs.declared.called.Called.{Called}
+use Rattle.qshared.specs.declared.called.Called.TheVariants.{Refused, Done, Blocked}
 
 -- a call that is refused with another error isn't refused as Busy
 pub other_error : (e : Errno) (c : Call) (Why : Type 0) → ¬ (e ≡ Busy) → OnBusy (Refused e c) Why
@@ -15,6 +16,14 @@ other_error e c Why other = record {}
 pub made_busy : (own : Option Completion) (Why : Type 0) → OnBusy (outcome own) Why
 made_busy None Why = record {}
 made_busy (Some x) Why = record {}
+
+-- an opener that never gives up isn't the reason
+pub never_gives_up : (p : Called) (Why : Type 0) → OnBusy p (Why ⊎ ⊥) → OnBusy p Why
+never_gives_up (Refused Busy c) Why (inl why) = why
+never_gives_up (Refused Busy c) Why (inr never) = absurd never
+never_gives_up (Refused e c) Why busy = record {}
+never_gives_up Blocked Why busy = record {}
+never_gives_up (Done x) Why busy = record {}
 
 -- the outcome doesn't depend on the call's place, unless the call is refused: then the call is still there
 pub same_called : (made : Result ⊤ Errno) (own : Option Completion) (c c' : Call) → IfErr made (λ e. c' ≡ c)

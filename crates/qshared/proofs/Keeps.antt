@@ -7,7 +7,8 @@ use Rattle.qshared.proofs.Common.{completions_are_apart, is_blocked, Answers, An
 use Rattle.qshared.proofs.Common.{opened_kernel_view, cancelled_kernel_view, one, HasWaited, at_once, later_due}
 use Rattle.qshared.proofs.Common.{of_thread, place, completes, is_down, IsUnderLock, Admits, IsFree, IsServed}
 use Rattle.qshared.proofs.Common.{IsReason, IsEvent, Performs, Refuses, outcome, MayPut, Handed, matches_down}
-use Rattle.qshared.proofs.Common.{MayArrive}
+use Rattle.qshared.proofs.Common.{MayArrive, UnderLock, IsBusy, ◌∷◌}
+use Rattle.atomic_table.specs.Seated.{TableId}
 use Rattle.qrules.proofs.Words.Facts.{threads_of}
 use Rattle.qmodel.specs.Trace.{Trace}
 use Rattle.qrules.proofs.Traces.TraceLaws.Completion.{completions_name_own_calls}
@@ -15,6 +16,22 @@ use Rattle.qrules.specs.Lawful.{facts_of}
 use Rattle.qshared.proofs.Places.{place_among, place_below}
 use Rattle.qshared.proofs.Turns.{gets_of, not_nil, of_one, own_number, waited_due}
 use Rattle.qshared.proofs.Telling.{undone, is_free, lawful_after, all_arrive, all_may_put, told_after}
+
+some_length : {A : Type 0} (xs : List A) → ¬ (xs ≡ []) → 0 < length xs
+some_length [] none = absurd (none refl)
+some_length (x ∷ xs) none = omega arith
+
+-- the value under the lock with these parts
+abbrev pub under : State → KernelView Completion → Trace → TableId → ℕ → UnderLock
+under kernel d past cells name =
+    record { kernel = kernel; kernel_view = d; past = past; cells = cells; history = name }
+
+-- the invariant holds of an equal roster and of as many cells
+pub renamed : (r s : List Member) (y z : TableId) (kernel : State) (d : KernelView Completion) (past : Trace)
+    → r ≡ s → y ≡ z → IsUnderLock r y.slots kernel d (threads_of r) past
+    → IsUnderLock s z.slots kernel d (threads_of s) past
+renamed r s y z kernel d past same cells h = subst (λ x. IsUnderLock s x.slots kernel d (threads_of s) past) cells
+    (subst (λ x. IsUnderLock x y.slots kernel d (threads_of x) past) same h)
 
 module _ (roster : List Member) (slots : ℕ) (kernel : State) (d : KernelView Completion) (threads : List ℕ)
     (past : Trace)
@@ -45,6 +62,19 @@ module _ (roster : List Member) (slots : ℕ) (kernel : State) (d : KernelView C
                   (later_due past t) o.later waited idle (o.whole ∙ none))
             ],
           )
+
+      -- a thread whose cell isn't idle is blocked, or has a later completion
+      pub is_busy : IsBusy (line d i) → IsReason roster past t Busy
+      is_busy busy =
+          let tied = h.told.tied t i at in
+          elim busy [
+            | inl opened ↦ (is_served, inl (sym tied.1 ∙ opened))
+            | inr full ↦
+                let some : 0 < length (later_due past t) =
+                some_length (later_due past t) (λ none. full (tied.0 ∙ none)) in
+                let owed = (h.told.owed t i at).later.0 in
+                is_pending (omega (arith, some, owed))
+          ]
 
       module _ (closed : (line d i).opened ≡ false) (wide : length d.lines ≡ slots) where
         near : i < length d.lines
@@ -100,11 +130,11 @@ module _ (roster : List Member) (slots : ℕ) (kernel : State) (d : KernelView C
           ]
           own_completion (Some x) is = gets_of t X x [] is
 
-          pub performs : (refuses : Refuses) (admits : Admits) (d' : KernelView Completion) → admits past c
-              → (own : Option Completion) → of_thread t X ≡ one own
-              → Performs roster refuses admits (record { kernel = kernel; kernel_view = d; past = past }) t c
-              (outcome own) (record { kernel = new; kernel_view = d'; past = with_event t c X past })
-          performs refuses admits d' admitted own is =
+          pub performs : (refuses : Refuses) (admits : Admits) (d' : KernelView Completion) (cells : TableId) (name : ℕ)
+              → admits past c → (own : Option Completion) → of_thread t X ≡ one own
+              → Performs roster refuses admits (under kernel d past cells name) t c
+              (outcome own) (under new d' (with_event t c X past) cells name)
+          performs refuses admits d' cells name admitted own is =
               let lawful = (lawful_after roster kernel d past t i h.told at near free c X answers h.rises) in
               let ends : gets X t ≡ completes X (length past + 1) =
               caller_gets_its_own roster past (record { thread = t; call = c; completions = X }) h.rises lawful in
@@ -114,8 +144,8 @@ module _ (roster : List Member) (slots : ℕ) (kernel : State) (d : KernelView C
               let event : IsEvent roster admits past t c X =
               record { free = free; admitted = admitted; answers = answers } in
               elim own as (λ o. of_thread t X ≡ one o
-              → Performs roster refuses admits (record { kernel = kernel; kernel_view = d; past = past }) t c
-              (outcome o) (record { kernel = new; kernel_view = d'; past = with_event t c X past })) [
+              → Performs roster refuses admits (under kernel d past cells name) t c
+              (outcome o) (under new d' (with_event t c X past) cells name)) [
                 | None ↦ λ e. (X, event, refl, record { none = e; unended = sym ends ∙ own_completion None e })
                 | Some x ↦ λ e. (
                   X,

@@ -14,5 +14,6 @@ pub mod Performing
 pub mod Private
 pub mod Recorded
 pub mod TwoCalls
+pub mod Desks
 pub mod UnderLock
 pub mod Unrecorded

@@ -2,51 +2,53 @@
 
 ghost use Rattle.std.specs.Prelude.{◌≡◌, ◌+◌, ◌<◌, ◌^◌, [], length, false, true};
 ghost use Rattle.qrules.specs.Rules.{effect_of};
+ghost use Rattle.qkernel_state.specs.Contents.{members_of};
 ghost use Rattle.qshared.specs.Past.{is_down};
 
 use crate::ghost_trace::GhostTrace;
 use crate::log::Log;
 use crate::logged_copy::LoggedCopy;
-use crate::tie::Tie;
 use qbase::errno::Errno;
 use qkernel::completions::Completions;
 use qkernel::kernel::{CALL_LIMIT, Kernel};
 use qkernel::thread_ref::ThreadRef;
 use qmodel::call::Call;
 use std::alloc::Global;
-use std::marker::PhantomData;
 use std::snapshot::Snapshot;
 
 /// A history that exists only in proofs: nothing is kept, and nothing is copied. Its only limit is the
 /// kernel's own: 2^40 calls, and the last is left for a Shutdown. It has no bytes.
 #[derive(Drop)]
-pub struct GhostHistory<K: Tie> {
+pub struct GhostHistory {
+    // The kernel when it was opened. Only contracts read it, for the roster.
+    kernel: Snapshot<Kernel>,
     past: GhostTrace,
     // The call that was noted and isn't an event yet, or Shutdown if there is none.
     call: Snapshot<Call>,
-    of: PhantomData<K>,
     ghost spare: { is_down past.trace ≡ false → length past.trace < 2 ^ 40 },
     ghost admitted: { (effect_of call.value).shuts_down ≡ false → length past.trace + 1 < 2 ^ 40 },
 }
 
-impl<K: Tie> GhostHistory<K> {
+impl GhostHistory {
     /// Returns the history of a kernel that has made no call.
-    pub(crate) fn new() -> GhostHistory<K>
-        ensures { result.past.trace ≡ [] }
+    pub fn new(kernel: &Kernel) -> GhostHistory
+        ensures past { result.past.trace ≡ [] }
+        ensures roster { members_of result.kernel.value.threads ≡ members_of kernel.now.threads }
     {
         GhostHistory {
+            kernel: Snapshot::of(kernel),
             past: GhostTrace::none(),
             call: Snapshot::of(&Call::Shutdown),
-            of: PhantomData,
         }
     }
 }
 
-impl<K: Tie> Log for GhostHistory<K> {
+impl Log for GhostHistory {
     ghost use Rattle.std.specs.Prelude.{true};
+    ghost use Rattle.qkernel_state.specs.Contents.{members_of};
     ghost use Rattle.qshared.specs.Unrecorded.{admits_unrecorded, refuses_unrecorded};
 
-    ghost roster = { λ _. K.names.roster };
+    ghost roster = { λ l. members_of l.kernel.value.threads };
 
     ghost past = { λ l. l.past.trace };
 

@@ -12,11 +12,10 @@ ghost use Rattle.qshared.specs.Delivered.{kernel_view, origin_of, IsDelivered};
 ghost use Rattle.qshared.specs.Due.{of_thread, place};
 ghost use Rattle.qshared.specs.Private.Putting.{MayArrive, MayPut, Handed};
 
-use crate::call_scratch::CallScratch;
 use crate::cell_steps::{cancel, put};
 use crate::delivery::{Delivery, Origin};
 use crate::history::Prefix;
-use crate::tie::Tie;
+use crate::turn::Turn;
 use qbase::ids::ThreadNo;
 use qhandoff::cells::Cells;
 use qhandoff::seats::KernelSeat;
@@ -68,51 +67,50 @@ fn bit_of(place: usize) -> u64
 }
 
 /// Puts the completions of an event into their threads' cells, and sets the bit of every cell that is filled.
-/// `seen` is the history up to this event. If one of them is for `scratch`'s own thread, it isn't put but
-/// kept in its place in `scratch`, and the thread's cell is closed.
+/// `seen` is the history up to this event. If one of them is for the turn's own thread, it isn't put but
+/// kept in its place in `turn`, and the thread's cell is closed.
 /// No two completions are for the same thread, so their order doesn't matter: the last is put first.
 #[inline(always)]
-pub(crate) fn hand_out<K: Tie>(
+pub(crate) fn hand_out(
     seat: &mut KernelSeat<Delivery>,
     cells: &Cells<Delivery, Origin>,
     kernel: &Kernel,
-    scratch: &mut CallScratch<K>,
+    turn: &mut Turn,
     seen: &Prefix,
 )
     requires few { (cells_id cells.now).slots ≤ 64 }
     requires cells { kernel_id seat.old ≡ cells_id cells.now }
     requires sized { length (threads_of (members_of kernel.now.threads)) ≡ (cells_id cells.now).slots }
-    requires place { place (threads_of (members_of kernel.now.threads)) scratch.old.seat.thread
-        ≡ Some scratch.old.seat.index }
-    requires own { scratch.old.own ≡ None }
-    requires apart { AreApart scratch.old.completions.value.items }
+    requires place { place (threads_of (members_of kernel.now.threads)) turn.old.seat.thread
+        ≡ Some turn.old.seat.index }
+    requires own { turn.old.own ≡ None }
+    requires apart { AreApart turn.old.completions.value.items }
     requires may { AllByRecursion
         (MayPut (threads_of (members_of kernel.now.threads)) (kernel_view seat.old))
-        scratch.old.completions.value.items }
+        turn.old.completions.value.items }
     requires seen { seen.now.name ≡ (origin_of cells.now).seen.name }
     requires arrive { AllByRecursion (MayArrive (origin_of cells.now).roster.value
-        (threads_of (members_of kernel.now.threads)) scratch.old.seat.thread seen.now.trace
-        (kernel_view seat.old)) scratch.old.completions.value.items }
+        (threads_of (members_of kernel.now.threads)) turn.old.seat.thread seen.now.trace
+        (kernel_view seat.old)) turn.old.completions.value.items }
     ensures cells { kernel_id seat.new ≡ kernel_id seat.old }
-    ensures own { of_thread scratch.old.seat.thread scratch.old.completions.value.items
-        ≡ one scratch.new.own }
-    ensures handed { Handed (threads_of (members_of kernel.now.threads)) scratch.old.seat.thread
-        scratch.old.completions.value.items (kernel_view seat.old) (kernel_view seat.new) }
-    ensures seat { (scratch.new.seat ≡ scratch.old.seat) × (scratch.new.pending ≡ scratch.old.pending) }
-    ensures share { scratch.new.share ≡ scratch.old.share }
-    ensures emptied { scratch.new.completions.value.items ≡ [] }
+    ensures own { of_thread turn.old.seat.thread turn.old.completions.value.items
+        ≡ one turn.new.own }
+    ensures handed { Handed (threads_of (members_of kernel.now.threads)) turn.old.seat.thread
+        turn.old.completions.value.items (kernel_view seat.old) (kernel_view seat.new) }
+    ensures seat { (turn.new.seat ≡ turn.old.seat) × (turn.new.pending ≡ turn.old.pending) }
+    ensures emptied { turn.new.completions.value.items ≡ [] }
 {
-    let own_place = scratch.seat.index();
-    let thread = scratch.seat.thread();
-    let completions = &mut *scratch.completions;
-    let own = &mut scratch.own;
+    let own_place = turn.seat.index();
+    let thread = turn.seat.thread();
+    let completions = &mut *turn.completions;
+    let own = &mut turn.own;
     while let Some(completion) = completions.pop() {
         if completion.thread == thread {
             cancel(seat, cells, own_place);
             *own = Some(completion);
         } else {
             let place = hand_one(seat, cells, kernel, completion, seen);
-            scratch.woken |= bit_of(place);
+            turn.woken |= bit_of(place);
         }
     }
 }

@@ -4,11 +4,12 @@
 
 mod admitting;
 pub mod asking;
-mod call_scratch;
 pub mod called;
 mod cell_steps;
 mod close_buffers;
 pub mod delivery;
+pub mod desk;
+pub mod desk_port;
 pub mod ghost_history;
 pub mod ghost_trace;
 mod handing;
@@ -18,6 +19,7 @@ mod lock_state;
 pub mod log;
 mod logged_copy;
 pub mod observed_prefix;
+pub mod opener;
 pub mod parts;
 pub mod port;
 mod preallocated;
@@ -28,4 +30,5 @@ mod spin_policy;
 mod spinning;
 pub mod tie;
 pub mod traced;
+pub mod turn;
 mod waker;

@@ -20,9 +20,10 @@ ghost use Rattle.qshared.specs.Past.{AreSeen, RiseByThread};
 ghost use Rattle.qshared.specs.Unrecorded.{HasPast};
 
 use crate::asking::{KernelCalls, PortCalls};
-use crate::call_scratch::CallScratch;
 use crate::close_buffers::CloseBuffers;
 use crate::delivery::{Delivery, Origin};
+use crate::desk::Desk;
+use crate::desk_port::DeskPort;
 use crate::ghost_history::GhostHistory;
 use crate::history::{History, Prefix};
 use crate::lock_state::LockState;
@@ -33,6 +34,7 @@ use crate::recorded_history::RecordedHistory;
 use crate::report::{EventCounts, Report};
 use crate::tie::Tie;
 use crate::traced::Traced;
+use crate::turn::Turn;
 use crate::waker::Waker;
 use crossbeam_utils::CachePadded;
 use crossbeam_utils::sync::Parker;
@@ -105,10 +107,10 @@ fn ports_for<K: Tie>(
     requires spare { (spare.old.parts ≡ length seats.items) × (spare.old.amount ≡ 0) }
     requires seen { (seen.now.name ≡ K.names.history) × (seen.now.trace ≡ []) }
     ensures spare { OnOk result ((spare.new.parts ≡ 0) × (spare.new.amount ≡ 0)) }
-    ensures ports { IfOk result (λ r. AreAll (λ p. thread_of p.seat) K.names.cells.slots r.0.items) }
+    ensures ports { IfOk result (λ r. AreAll (λ p. thread_of p.core.seat) K.names.cells.slots r.0.items) }
     ensures new { IfOk result (λ r. (k : ℕ) (p : _) → get_elem? r.0.items k ≡ some p → (p.calls ≡ 0)
-        × (p.scratch.pending ≡ false) × (collected_by p ≡ [])
-        × (p.asked.calls ≡ []) × (p.seen.trace ≡ [])) }
+        × (p.core.turn.pending ≡ false) × (collected_by p ≡ [])
+        × (p.core.asked.calls ≡ []) × (p.core.seen.trace ≡ [])) }
 {
     let alloc = kernel.alloc();
     let mut ports = Vec::with_capacity(alloc, seats.len())?;
@@ -124,8 +126,9 @@ fn ports_for<K: Tie>(
         let Some(place) = kernel.seat(thread) else {
             unreachable!()
         };
-        let scratch = CallScratch::new(alloc, place, spare.split_off(1, 0))?;
-        let port = Port::new(scratch, seat, parker, own, seen.again());
+        let turn = Turn::new(alloc, place)?;
+        let core = DeskPort::new(seat, turn, own, seen.again());
+        let port = Port::new(core, spare.split_off(1, 0), parker);
         ports.push_reserved(port);
     }
     Ok((ports, wakers))
@@ -146,25 +149,28 @@ fn gather<K: Tie>(
     requires asked { (asked.old.items ≡ []) × (length ports.items ≤ vec_capacity asked.old) }
     requires spare { (spare.old.parts ≡ 0) × (spare.old.amount ≡ 0) }
     requires history { history.old.name ≡ K.names.history }
-    ensures seats { seats.new.items ≡ map (λ p. p.seat) ports.items }
+    ensures seats { seats.new.items ≡ map (λ p. p.core.seat) ports.items }
     ensures calls { calls.new.items ≡ map (λ p. p.calls) ports.items }
-    ensures asked { asked.new.items ≡ map (λ p. p.asked) ports.items }
+    ensures asked { asked.new.items ≡ map (λ p. p.core.asked) ports.items }
     ensures spare { (spare.new.parts ≡ length ports.items) × (spare.new.amount ≡ sum calls.new.items) }
-    ensures seen { AreSeen history.old.trace (map (λ p. p.seen.trace) ports.items) }
+    ensures seen { AreSeen history.old.trace (map (λ p. p.core.seen.trace) ports.items) }
 {
     for port in ports {
         let Port {
-            seat,
-            scratch,
+            core,
+            share,
             calls: made,
+            ..
+        } = port;
+        let DeskPort {
+            seat,
             asked: own,
             mut seen,
             ..
-        } = port;
+        } = core;
         seats.push_reserved(seat);
         calls.push_reserved(made);
         asked.push_reserved(own);
-        let CallScratch { share, .. } = scratch;
         spare.merge(share);
         history.look(&mut seen);
     }
@@ -189,10 +195,10 @@ impl<K: Tie, L: Log> Shared<K, L> {
     fn with_log(parts: Parts, log: L) -> Result<(Shared<K, L>, Vec<Port<K>>), AllocError>
         requires named { AreParts K.names K.name K.parts parts }
         requires log { (L.roster log ≡ K.names.roster) × (L.past log ≡ []) }
-        ensures ports { IfOk result (λ r. AreAll (λ p. thread_of p.seat) K.names.cells.slots r.1.items) }
+        ensures ports { IfOk result (λ r. AreAll (λ p. thread_of p.core.seat) K.names.cells.slots r.1.items) }
         ensures new { IfOk result (λ r. (k : ℕ) (p : _) → get_elem? r.1.items k ≡ some p → (p.calls ≡ 0)
-            × (p.scratch.pending ≡ false) × (collected_by p ≡ [])
-            × (p.asked.calls ≡ []) × (p.seen.trace ≡ [])) }
+            × (p.core.turn.pending ≡ false) × (collected_by p ≡ [])
+            × (p.core.asked.calls ≡ []) × (p.core.seen.trace ≡ [])) }
     {
         let Parts {
             cells,
@@ -214,7 +220,8 @@ impl<K: Tie, L: Log> Shared<K, L> {
         let (book, mut spare) = blank.open::<K>();
         let (ports, wakers) = ports_for(&kernel, &threads, seats, asked, &mut spare, &seen)?;
         let traced = Traced::new(kernel, seat, log, history);
-        let locked = LockState::new(traced, book, spare, room, heard);
+        let desk = Desk::new(traced, heard);
+        let locked = LockState::new(desk, book, spare, room);
         let lock = CachePadded::new(Mutex::new(Box::new(alloc, locked)?));
         let shared = Shared {
             cells,
@@ -239,13 +246,13 @@ impl<K: Tie, L: Log> Shared<K, L> {
     /// Returns whether these are all ports of the kernel, in ascending order of thread number.
     /// It serves to check the ports before `finish`, as in `opening.rt` of `crates/balsaeuchre_calls`.
     pub fn all(&self, ports: &[Port<K>]) -> bool
-        ensures { IsTrue result ↔ AreAll (λ p. thread_of p.seat) K.names.cells.slots ports.now }
+        ensures { IsTrue result ↔ AreAll (λ p. thread_of p.core.seat) K.names.cells.slots ports.now }
     {
         if ports.len() != self.cells.threads() {
             return false;
         }
         for k in 0..ports.len() {
-            if ports[k].seat.thread() != k {
+            if ports[k].core.seat.thread() != k {
                 return false;
             }
         }
@@ -277,11 +284,11 @@ impl<K: Tie, L: Log> Shared<K, L> {
     /// Takes the kernel and all its ports apart. The list must have all ports, in ascending order of thread
     /// number.
     fn close(self, ports: Vec<Port<K>>) -> Closed<L>
-        requires all { AreAll (λ p. thread_of p.seat) K.names.cells.slots ports.items }
+        requires all { AreAll (λ p. thread_of p.core.seat) K.names.cells.slots ports.items }
         ensures calls { result.calls.items ≡ map (λ p. p.calls) ports.items }
         ensures sum { sum result.calls.items ≡ length (L.past result.log) }
-        ensures asked { AreCallsOf K.names.roster (map (λ p. p.asked.calls) ports.items) (L.past result.log) }
-        ensures seen { AreSeen (L.past result.log) (map (λ p. p.seen.trace) ports.items) }
+        ensures asked { AreCallsOf K.names.roster (map (λ p. p.core.asked.calls) ports.items) (L.past result.log) }
+        ensures seen { AreSeen (L.past result.log) (map (λ p. p.core.seen.trace) ports.items) }
         ensures lawful { IsLawful K.names.roster (L.past result.log)
             × HasProperties K.names.roster (L.past result.log) }
         ensures rises { RiseByThread result.left.items }
@@ -291,11 +298,10 @@ impl<K: Tie, L: Log> Shared<K, L> {
     {
         let Shared { cells, lock, .. } = self;
         let LockState {
-            traced,
+            desk,
             mut book,
             mut spare,
             room,
-            heard,
             ..
         } = Box::into_inner(lock.into_inner().into_inner());
         let CloseBuffers {
@@ -305,6 +311,7 @@ impl<K: Tie, L: Log> Shared<K, L> {
             mut asked,
             ..
         } = room;
+        let Desk { traced, heard } = desk;
         let Traced {
             seat,
             log,
@@ -336,10 +343,10 @@ impl<K: Tie> Shared<K, RecordedHistory<K>> {
     /// `two_threads.rt` of `crates/balsaeuchre_examples` opens one.
     pub fn open(parts: Parts) -> Result<(Shared<K, RecordedHistory<K>>, Vec<Port<K>>), Errno>
         requires named { AreParts K.names K.name K.parts parts }
-        ensures ports { IfOk result (λ r. AreAll (λ p. thread_of p.seat) K.names.cells.slots r.1.items) }
+        ensures ports { IfOk result (λ r. AreAll (λ p. thread_of p.core.seat) K.names.cells.slots r.1.items) }
         ensures new { IfOk result (λ r. (k : ℕ) (p : _) → get_elem? r.1.items k ≡ some p → (p.calls ≡ 0)
-            × (p.scratch.pending ≡ false) × (collected_by p ≡ [])
-            × (p.asked.calls ≡ []) × (p.seen.trace ≡ [])) }
+            × (p.core.turn.pending ≡ false) × (collected_by p ≡ [])
+            × (p.core.asked.calls ≡ []) × (p.core.seen.trace ≡ [])) }
         ensures error { IfErr result (λ e. e ≡ Errno.NoMemory) }
     {
         let alloc = parts.kernel.alloc();
@@ -355,13 +362,13 @@ impl<K: Tie> Shared<K, RecordedHistory<K>> {
     /// completion that is left for it, if any.
     /// `opening.rt` of `crates/balsaeuchre_calls` closes one.
     pub fn finish(self, ports: Vec<Port<K>>) -> Report
-        requires all { AreAll (λ p. thread_of p.seat) K.names.cells.slots ports.items }
+        requires all { AreAll (λ p. thread_of p.core.seat) K.names.cells.slots ports.items }
         ensures calls { result.calls.items ≡ map (λ p. p.calls) ports.items }
         ensures sum { sum result.calls.items ≡ length result.trace.events }
         ensures within { length result.trace.events ≤ K.names.limit }
-        ensures asked { AreCallsOf K.names.roster (map (λ p. p.asked.calls) ports.items)
+        ensures asked { AreCallsOf K.names.roster (map (λ p. p.core.asked.calls) ports.items)
             (followed_by [] result.trace.events) }
-        ensures seen { AreSeen (followed_by [] result.trace.events) (map (λ p. p.seen.trace) ports.items) }
+        ensures seen { AreSeen (followed_by [] result.trace.events) (map (λ p. p.core.seen.trace) ports.items) }
         ensures lawful { (result.trace.first ≡ 1)
             × IsLawful K.names.roster (followed_by [] result.trace.events)
             × HasProperties K.names.roster (followed_by [] result.trace.events) }
@@ -379,20 +386,21 @@ impl<K: Tie> Shared<K, RecordedHistory<K>> {
     }
 }
 
-impl<K: Tie> Shared<K, GhostHistory<K>> {
+impl<K: Tie> Shared<K, GhostHistory> {
     /// Opens a kernel of these parts that keeps no history. Returns a port for each thread, in ascending
     /// order of thread number. The limit of the parts is ignored. The only error is `NoMemory`, which drops
     /// the parts.
     /// `course.rt` of `bench/programs/qroundtrips` opens and closes one.
-    pub fn open(parts: Parts) -> Result<(Shared<K, GhostHistory<K>>, Vec<Port<K>>), Errno>
+    pub fn open(parts: Parts) -> Result<(Shared<K, GhostHistory>, Vec<Port<K>>), Errno>
         requires named { AreParts K.names K.name K.parts parts }
-        ensures ports { IfOk result (λ r. AreAll (λ p. thread_of p.seat) K.names.cells.slots r.1.items) }
+        ensures ports { IfOk result (λ r. AreAll (λ p. thread_of p.core.seat) K.names.cells.slots r.1.items) }
         ensures new { IfOk result (λ r. (k : ℕ) (p : _) → get_elem? r.1.items k ≡ some p → (p.calls ≡ 0)
-            × (p.scratch.pending ≡ false) × (collected_by p ≡ [])
-            × (p.asked.calls ≡ []) × (p.seen.trace ≡ [])) }
+            × (p.core.turn.pending ≡ false) × (collected_by p ≡ [])
+            × (p.core.asked.calls ≡ []) × (p.core.seen.trace ≡ [])) }
         ensures error { IfErr result (λ e. e ≡ Errno.NoMemory) }
     {
-        Ok(Shared::with_log(parts, GhostHistory::new())?)
+        let log = GhostHistory::new(&parts.kernel);
+        Ok(Shared::with_log(parts, log)?)
     }
 
     /// Closes the kernel and takes back all its ports, in ascending order of thread number. Returns the
@@ -401,12 +409,12 @@ impl<K: Tie> Shared<K, GhostHistory<K>> {
     /// There is a history of the calls, although it isn't kept. A thread's completions in it are the
     /// completions that its port took, followed by the completion that is left for it, if any.
     pub fn finish(self, ports: Vec<Port<K>>) -> EventCounts
-        requires all { AreAll (λ p. thread_of p.seat) K.names.cells.slots ports.items }
+        requires all { AreAll (λ p. thread_of p.core.seat) K.names.cells.slots ports.items }
         ensures calls { result.calls.items ≡ map (λ p. p.calls) ports.items }
         ensures rises { RiseByThread result.left.items }
         ensures known { AreKnown K.names.roster result.left.items }
         ensures past { HasPast K.names.roster (map collected_by ports.items)
-            (map (λ p. p.asked.calls) ports.items) (map (λ p. p.seen.trace) ports.items) result.calls.items
+            (map (λ p. p.core.asked.calls) ports.items) (map (λ p. p.core.seen.trace) ports.items) result.calls.items
             result.left.items }
     {
         let Closed { calls, left, .. } = self.close(ports);

@@ -16,7 +16,7 @@ const TRIAL: u32 = 256;
 
 /// How many times a thread polls for its completion before it sleeps. It has the most polls while it finds
 /// completions by spinning. After each wait without success it has a sixteenth fewer, down to 15.
-#[derive(Drop)]
+#[derive(Clone, Copy)]
 pub(crate) struct SpinPolicy {
     looks: u32,
     in_vain: u32,

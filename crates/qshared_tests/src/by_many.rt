@@ -174,7 +174,7 @@ fn many_and_no_past<K: Tie + Send + Sync, R: Threads + Wait + Abort + Sync>(
 ) -> EventCounts
     requires named { AreParts K.names K.name K.parts parts }
 {
-    let (mut shared, ports) = Shared::<K, GhostHistory<K>>::open(parts).expect(rt, "a kernel");
+    let (mut shared, ports) = Shared::<K, GhostHistory>::open(parts).expect(rt, "a kernel");
     shared.set_processors(processors);
     let ports = all_threads(rt, alloc, &shared, ports, size);
     tallied(rt, shared, ports)

@@ -85,7 +85,7 @@ pub fn finished<K: Tie>(
 /// Returns the tally of a kernel that keeps no history; these must be all of its ports.
 pub fn tallied<K: Tie>(
     rt: &impl Abort,
-    shared: Shared<K, GhostHistory<K>>,
+    shared: Shared<K, GhostHistory>,
     ports: Vec<Port<K>>,
 ) -> EventCounts {
     if !shared.all(&ports) {

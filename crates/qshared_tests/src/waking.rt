@@ -170,7 +170,7 @@ fn sleep_and_wake<K: Tie + Send + Sync, R: Threads + Wait + Abort + Sync>(
 )
     requires named { AreParts K.names K.name K.parts parts }
 {
-    let (shared, mut ports) = Shared::<K, GhostHistory<K>>::open(parts).expect(rt, "a kernel");
+    let (shared, mut ports) = Shared::<K, GhostHistory>::open(parts).expect(rt, "a kernel");
     let mut main = ports.pop().expect(rt, "a port");
     let create = Call::ChannelCreate(ChannelFlags::of(0));
     done(rt, main.call(&shared, rt, create));

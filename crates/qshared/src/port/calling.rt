@@ -12,8 +12,7 @@ ghost use Rattle.qshared.specs.Counting.{is_call, gives, pends, OnBusy};
 ghost use Rattle.qshared.specs.TwoCalls.{AnsweredBoth, calls_in, asked_by, gives_both, pends_both};
 ghost use Rattle.qshared.specs.TwoCalls.{OnBusyInBoth};
 
-use crate::call_scratch::{clear, copy_into, free_lent, keep_lent};
-use crate::called::{Called, CalledPair, called_by, events, is_ok, pends};
+use crate::called::{Called, CalledPair, called_by, events, is_ok};
 use crate::delivery::{Delivery, Origin};
 use crate::lock_state::LockState;
 use crate::log::Log;
@@ -22,6 +21,7 @@ use crate::port::Port;
 use crate::shared::Shared;
 use crate::spinning;
 use crate::tie::Tie;
+use crate::turn::{clear, copy_into, free_lent, keep_lent};
 use qbase::bytes::Bytes;
 use qbase::errno::Errno;
 use qhandoff::cells::Cells;
@@ -51,31 +51,31 @@ impl<K: Tie> Port<K> {
     /// of 2^40 events is left.
     /// `endpoint.rt` of `crates/balsaeuchre_calls` calls it.
     pub fn call<L: Log, R: Wait>(&mut self, shared: &Shared<K, L>, rt: &R, call: Call) -> Called
-        ensures came { AtPast K.names.roster self.old.thread self.old.asked.calls self.old.seen.trace
-            (λ past. Answered K.names.roster L.refuses L.admits self.old.thread call result past
-            self.new.seen.trace) }
+        ensures came { AtPast K.names.roster self.old.core.thread self.old.core.asked.calls self.old.core.seen.trace
+            (λ past. Answered K.names.roster L.refuses L.admits self.old.core.thread call result past
+            self.new.core.seen.trace) }
         ensures calls { self.new.calls ≡ self.old.calls + (if is_call result then 1 else 0) }
-        ensures asked { self.new.asked.calls ≡ self.old.asked.calls
+        ensures asked { self.new.core.asked.calls ≡ self.old.core.asked.calls
             ++ (if is_call result then call ∷ [] else []) }
-        ensures pending { self.new.scratch.pending ≡ pends result self.old.scratch.pending }
-        ensures busy { OnBusy result (self.old.scratch.pending ≡ true) }
+        ensures pending { self.new.core.turn.pending ≡ pends result self.old.core.turn.pending }
+        ensures busy { OnBusy result (self.old.core.turn.pending ≡ true) }
         ensures taken { collected_by self.new ≡ collected_by self.old ++ gives result }
-        ensures last { self.new.last.trace ≡ self.new.seen.trace }
-        ensures same { (self.new.thread ≡ self.old.thread)
-            × (thread_of self.new.seat ≡ thread_of self.old.seat) }
+        ensures last { self.new.core.last.trace ≡ self.new.core.seen.trace }
+        ensures same { (self.new.core.thread ≡ self.old.core.thread)
+            × (thread_of self.new.core.seat ≡ thread_of self.old.core.seat) }
     {
         let mut call = call;
-        self.scratch.woken = 0;
-        free_lent(&mut self.scratch.lent);
-        copy_into::<L>(self.scratch.alloc, &call, &mut self.scratch.copies);
+        self.core.turn.woken = 0;
+        free_lent(&mut self.core.turn.lent);
+        copy_into::<L>(self.core.turn.alloc, &call, &mut self.core.turn.copies);
         let made = {
             let mut guard = spinning::lock(&*shared.lock, shared.looks, rt);
             self.make(&shared.cells, rt, &mut **guard, &mut call)
         };
-        shared.wake(self.scratch.woken);
-        clear(&mut self.scratch.copies);
-        let called = called_by(made, &mut self.scratch.own, &mut call);
-        keep_lent(&mut self.scratch.lent, call);
+        shared.wake(self.core.turn.woken);
+        clear(&mut self.core.turn.copies);
+        let called = called_by(made, &mut self.core.turn.own, &mut call);
+        keep_lent(&mut self.core.turn.lent, call);
         called
     }
 
@@ -90,22 +90,22 @@ impl<K: Tie> Port<K> {
         first: Call,
         second: Call,
     ) -> CalledPair
-        ensures came { AtPast K.names.roster self.old.thread self.old.asked.calls self.old.seen.trace
-            (λ past. AnsweredBoth K.names.roster L.refuses L.admits self.old.thread first second result past
-            self.new.seen.trace) }
+        ensures came { AtPast K.names.roster self.old.core.thread self.old.core.asked.calls self.old.core.seen.trace
+            (λ past. AnsweredBoth K.names.roster L.refuses L.admits self.old.core.thread first second result past
+            self.new.core.seen.trace) }
         ensures calls { self.new.calls ≡ self.old.calls + calls_in result }
-        ensures asked { self.new.asked.calls ≡ self.old.asked.calls ++ asked_by first second result }
-        ensures pending { self.new.scratch.pending ≡ pends_both result self.old.scratch.pending }
-        ensures busy { OnBusyInBoth result (self.old.scratch.pending ≡ true) }
+        ensures asked { self.new.core.asked.calls ≡ self.old.core.asked.calls ++ asked_by first second result }
+        ensures pending { self.new.core.turn.pending ≡ pends_both result self.old.core.turn.pending }
+        ensures busy { OnBusyInBoth result (self.old.core.turn.pending ≡ true) }
         ensures taken { collected_by self.new ≡ collected_by self.old ++ gives_both result }
-        ensures last { self.new.last.trace ≡ self.new.seen.trace }
-        ensures same { (self.new.thread ≡ self.old.thread)
-            × (thread_of self.new.seat ≡ thread_of self.old.seat) }
+        ensures last { self.new.core.last.trace ≡ self.new.core.seen.trace }
+        ensures same { (self.new.core.thread ≡ self.old.core.thread)
+            × (thread_of self.new.core.seat ≡ thread_of self.old.core.seat) }
     {
-        self.scratch.woken = 0;
-        free_lent(&mut self.scratch.lent);
-        copy_into::<L>(self.scratch.alloc, &first, &mut self.scratch.copies);
-        let mut copies = L::copies(self.scratch.alloc, &second);
+        self.core.turn.woken = 0;
+        free_lent(&mut self.core.turn.lent);
+        copy_into::<L>(self.core.turn.alloc, &first, &mut self.core.turn.copies);
+        let mut copies = L::copies(self.core.turn.alloc, &second);
         let called = {
             let mut guard = spinning::lock(&*shared.lock, shared.looks, rt);
             let locked = &mut **guard;
@@ -113,7 +113,7 @@ impl<K: Tie> Port<K> {
             match first {
                 Called::Done(completion) => {
                     if is_ok(completion.mark) {
-                        self.scratch.copies = copies.take();
+                        self.core.turn.copies = copies.take();
                         let second = self.make_whole(&shared.cells, rt, locked, second);
                         CalledPair::Both(completion, second)
                     } else {
@@ -127,8 +127,8 @@ impl<K: Tie> Port<K> {
                 }
             }
         };
-        shared.wake(self.scratch.woken);
-        clear(&mut self.scratch.copies);
+        shared.wake(self.core.turn.woken);
+        clear(&mut self.core.turn.copies);
         called
     }
 
@@ -141,31 +141,31 @@ impl<K: Tie> Port<K> {
         call: Call,
     ) -> Called
         requires cells { (cells_id cells.now ≡ K.names.cells) × IsOrigin K.names (origin_of cells.now) }
-        requires copies { IfSome self.old.scratch.copies (λ c. c ≡ call) }
-        ensures met { IsMet K.names.roster self.old.thread self.old.asked.calls self.old.seen.trace
-            locked.old.traced.past }
-        ensures came { Answered K.names.roster L.refuses L.admits self.old.thread call result
-            locked.old.traced.past self.new.seen.trace }
-        ensures past { locked.new.traced.past ≡ self.new.seen.trace }
+        requires copies { IfSome self.old.core.turn.copies (λ c. c ≡ call) }
+        ensures met { IsMet K.names.roster self.old.core.thread self.old.core.asked.calls self.old.core.seen.trace
+            locked.old.desk.traced.past }
+        ensures came { Answered K.names.roster L.refuses L.admits self.old.core.thread call result
+            locked.old.desk.traced.past self.new.core.seen.trace }
+        ensures past { locked.new.desk.traced.past ≡ self.new.core.seen.trace }
         ensures calls { self.new.calls ≡ self.old.calls + (if is_call result then 1 else 0) }
-        ensures asked { self.new.asked.calls ≡ self.old.asked.calls
+        ensures asked { self.new.core.asked.calls ≡ self.old.core.asked.calls
             ++ (if is_call result then call ∷ [] else []) }
-        ensures pending { self.new.scratch.pending ≡ pends result self.old.scratch.pending }
-        ensures busy { OnBusy result (self.old.scratch.pending ≡ true) }
+        ensures pending { self.new.core.turn.pending ≡ pends result self.old.core.turn.pending }
+        ensures busy { OnBusy result (self.old.core.turn.pending ≡ true) }
         ensures taken { collected_by self.new ≡ collected_by self.old ++ gives result }
-        ensures last { self.new.last.trace ≡ self.new.seen.trace }
-        ensures same { (self.new.thread ≡ self.old.thread)
-            × (thread_of self.new.seat ≡ thread_of self.old.seat) }
+        ensures last { self.new.core.last.trace ≡ self.new.core.seen.trace }
+        ensures same { (self.new.core.thread ≡ self.old.core.thread)
+            × (thread_of self.new.core.seat ≡ thread_of self.old.core.seat) }
     {
         let mut call = call;
         let made = self.make(cells, rt, locked, &mut call);
-        let called = called_by(made, &mut self.scratch.own, &mut call);
-        keep_lent(&mut self.scratch.lent, call);
+        let called = called_by(made, &mut self.core.turn.own, &mut call);
+        keep_lent(&mut self.core.turn.lent, call);
         called
     }
 
     /// Makes a call of the thread under the lock, which the caller holds. A refused call stays in its place.
-    /// If the call completes in its own event, its completion is in its place in `scratch` afterwards.
+    /// If the call completes in its own event, its completion is in its place in the port afterwards.
     #[inline(always)]
     fn make<L: Log, R: Wait>(
         &mut self,
@@ -175,38 +175,28 @@ impl<K: Tie> Port<K> {
         call: &mut Call,
     ) -> Result<(), Errno>
         requires cells { (cells_id cells.now ≡ K.names.cells) × IsOrigin K.names (origin_of cells.now) }
-        requires copies { IfSome self.old.scratch.copies (λ c. c ≡ call.old) }
-        ensures met { IsMet K.names.roster self.old.thread self.old.asked.calls self.old.seen.trace
-            locked.old.traced.past }
-        ensures came { Answered K.names.roster L.refuses L.admits self.old.thread call.old
-            (called_by result self.new.scratch.own call.old) locked.old.traced.past self.new.seen.trace }
+        requires copies { IfSome self.old.core.turn.copies (λ c. c ≡ call.old) }
+        ensures met { IsMet K.names.roster self.old.core.thread self.old.core.asked.calls self.old.core.seen.trace
+            locked.old.desk.traced.past }
+        ensures came { Answered K.names.roster L.refuses L.admits self.old.core.thread call.old
+            (called_by result self.new.core.turn.own call.old) locked.old.desk.traced.past self.new.core.seen.trace }
         ensures refused { IfErr result (λ e. call.new ≡ call.old) }
-        ensures past { locked.new.traced.past ≡ self.new.seen.trace }
+        ensures past { locked.new.desk.traced.past ≡ self.new.core.seen.trace }
         ensures calls { self.new.calls ≡ self.old.calls + (if is_ok result then 1 else 0) }
-        ensures asked { self.new.asked.calls ≡ self.old.asked.calls
+        ensures asked { self.new.core.asked.calls ≡ self.old.core.asked.calls
             ++ (if is_ok result then call.old ∷ [] else []) }
-        ensures pending { self.new.scratch.pending
-            ≡ pends (called_by result self.new.scratch.own call.old) self.old.scratch.pending }
-        ensures busy { OnBusy (called_by result self.new.scratch.own call.old)
-            (self.old.scratch.pending ≡ true) }
+        ensures pending { self.new.core.turn.pending
+            ≡ pends (called_by result self.new.core.turn.own call.old) self.old.core.turn.pending }
+        ensures busy { OnBusy (called_by result self.new.core.turn.own call.old)
+            (self.old.core.turn.pending ≡ true) }
         ensures taken { collected_by self.new
-            ≡ collected_by self.old ++ gives (called_by result self.new.scratch.own call.old) }
-        ensures last { self.new.last.trace ≡ self.new.seen.trace }
-        ensures same { (self.new.thread ≡ self.old.thread)
-            × (thread_of self.new.seat ≡ thread_of self.old.seat) }
+            ≡ collected_by self.old ++ gives (called_by result self.new.core.turn.own call.old) }
+        ensures last { self.new.core.last.trace ≡ self.new.core.seen.trace }
+        ensures same { (self.new.core.thread ≡ self.old.core.thread)
+            × (thread_of self.new.core.seat ≡ thread_of self.old.core.seat) }
     {
-        clear(&mut self.scratch.own);
-        let made = locked.call(
-            cells,
-            rt,
-            &mut self.scratch,
-            &mut self.asked,
-            &mut self.seen,
-            call,
-        );
-        self.last = self.seen.again();
+        let made = locked.call(cells, rt, &mut self.share, &mut self.core, call);
         self.calls += events(&made);
-        self.scratch.pending = pends(&made, &self.scratch.own, self.scratch.pending);
         made
     }
 
@@ -214,26 +204,26 @@ impl<K: Tie> Port<K> {
     /// serve for the bytes of the next call. Returns `None` if they were returned before.
     /// `endpoint.rt` of `crates/balsaeuchre_calls` keeps them for its replies.
     pub fn spare(&mut self) -> Option<Bytes>
-        ensures last { self.new.last ≡ self.old.last }
+        ensures last { self.new.core.last ≡ self.old.core.last }
         ensures taken { collected_by self.new ≡ collected_by self.old }
-        ensures pending { self.new.scratch.pending ≡ self.old.scratch.pending }
-        ensures same { (self.new.thread ≡ self.old.thread)
-            × (thread_of self.new.seat ≡ thread_of self.old.seat) × (self.new.calls ≡ self.old.calls)
-            × (self.new.asked ≡ self.old.asked) × (self.new.seen ≡ self.old.seen) }
+        ensures pending { self.new.core.turn.pending ≡ self.old.core.turn.pending }
+        ensures same { (self.new.core.thread ≡ self.old.core.thread)
+            × (thread_of self.new.core.seat ≡ thread_of self.old.core.seat) × (self.new.calls ≡ self.old.calls)
+            × (self.new.core.asked ≡ self.old.core.asked) × (self.new.core.seen ≡ self.old.core.seen) }
     {
-        bytes_of(mem::replace(&mut self.scratch.lent, Call::Shutdown))
+        bytes_of(mem::replace(&mut self.core.turn.lent, Call::Shutdown))
     }
 
     /// Learns a prefix of the history that another port of the kernel has seen. The next call is then known
     /// to come after its events.
     pub fn learn(&mut self, other: &ObservedPrefix<K>)
-        ensures own { Extends self.new.seen.trace self.old.seen.trace }
-        ensures others { Extends self.new.seen.trace other.entry.now }
+        ensures own { Extends self.new.core.seen.trace self.old.core.seen.trace }
+        ensures others { Extends self.new.core.seen.trace other.entry.now }
         ensures taken { collected_by self.new ≡ collected_by self.old }
-        ensures same { (self.new.thread ≡ self.old.thread) × (self.new.seat ≡ self.old.seat)
-            × (self.new.calls ≡ self.old.calls) × (self.new.scratch.pending ≡ self.old.scratch.pending)
-            × (self.new.asked ≡ self.old.asked) × (self.new.last ≡ self.old.last) }
+        ensures same { (self.new.core.thread ≡ self.old.core.thread) × (self.new.core.seat ≡ self.old.core.seat)
+            × (self.new.calls ≡ self.old.calls) × (self.new.core.turn.pending ≡ self.old.core.turn.pending)
+            × (self.new.core.asked ≡ self.old.core.asked) × (self.new.core.last ≡ self.old.core.last) }
     {
-        self.seen.learn(&other.beginning);
+        self.core.learn(&other.beginning);
     }
 }

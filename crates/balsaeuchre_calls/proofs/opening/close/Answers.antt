@@ -24,6 +24,6 @@ pub returns-then-not-all-clause-error : goal.returns-then-not-all-clause-error
 returns-then-not-all-clause-error g c = (
   refl,
   λ all. true≢false
-      (sym (c.all.ensures.1 (subst (AreAll (λ p. thread_of p.seat) g.K.Tie.names.cells.slots)
+      (sym (c.all.ensures.1 (subst (AreAll (λ p. thread_of p.core.seat) g.K.Tie.names.cells.slots)
       (sym c.as_slice.ensures.value) all)) ∙ c.if-not-all.true),
 )

@@ -6,6 +6,6 @@ use Rattle.qshared_tests.proofs.making.finished.Goals as goal
 pub finish-requires : goal.finish-requires
 finish-requires g c =
     record {
-      all = subst (AreAll (λ p. thread_of p.seat) g.K.Tie.names.cells.slots) c.deref.ensures.value
+      all = subst (AreAll (λ p. thread_of p.core.seat) g.K.Tie.names.cells.slots) c.deref.ensures.value
           (c.if-not-all.ensures.0 refl);
     }

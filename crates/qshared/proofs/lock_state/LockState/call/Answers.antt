@@ -1,114 +1,21 @@
-use Rattle.qshared.proofs.Common.{Some, ◌≡◌, ◌<◌, List, [], map, length, length-set, ap, sym, subst, ◌∙◌, arith}
-use Rattle.qshared.proofs.Common.{length-map, map-set, KernelCalls, AreCallsOf, WaitedBefore}
-use Rattle.qshared.specs.Performing.{called_by}
-use Rattle.qshared.proofs.Busy.{is_event}
-use Rattle.qshared.proofs.Lists.{comes, kept_names, told_list, heard_event, heard_refused}
+use Rattle.qshared.proofs.Common.{ap, sym, ◌∙◌, place, threads_of}
 use Rattle.qshared.proofs.lock_state.LockState.call.Goals as goal
-use Rattle.qshared.proofs.lock_state.LockState.call.Goals.{then-is_ok, else-is_ok}
 
-pub agree-requires : goal.agree-requires
-agree-requires g c = record {
-  cell = omega (arith, c.requires.seat.1, c.index-cell.ensures, c.args.self.now.named.1);
-  name = rw (c.args.self.now.named.0, c.index-cell.ensures) c.requires.asked;
-}
-
-pub invariant_of-self-clause-named : goal.invariant_of-self-clause-named
-invariant_of-self-clause-named g c =
-    let hs = c.agree.new.heard.items in
-    let named : (map (λ h. h.name) hs ≡ g.K.Tie.names.lists) × (length hs ≡ g.K.Tie.names.cells.slots) = (
-      ap (map (λ h. h.name)) c.agree.ensures.heard ∙ c.args.self.now.named.0,
-      ap length c.agree.ensures.heard
-          ∙ c.args.self.now.named.1,
-    ) in
-    let near : c.index-cell.result < length hs = omega (arith, c.requires.seat.1, c.index-cell.ensures, named.1) in (
-      kept_names hs c.index-cell.result c.index_mut.result.now c.ask.new.heard near c.index_mut.ensures.value
-          c.ask.ensures.heard_name ∙ named.0,
-      length-set hs c.index-cell.result c.ask.new.heard ∙ named.1,
-    )
-
-pub invariant_of-self-clause-heard_all : goal.invariant_of-self-clause-heard_all
-invariant_of-self-clause-heard_all g c =
-    let made = c.perform-made in
-    let p = called_by made.result made.new.scratch.own c.args.call.now in
-    let is = is_event made.result made.new.scratch.own c.args.call.now in
-    let hs = c.agree.new.heard.items in
-    let many : length hs ≡ g.K.Tie.names.cells.slots = ap length c.agree.ensures.heard ∙ c.args.self.now.named.1 in
-    let near : c.index-cell.result < length hs = omega (arith, c.requires.seat.1, c.index-cell.ensures, many) in
-    let long : length (map (λ h. h.calls) hs) ≡ length hs = length-map hs (λ h. h.calls) in
-    let told =
-    told_list hs c.index-cell.result c.index_mut.result.now c.ask.new.heard c.args.call.now near
-    c.index_mut.ensures.value (rw (c.of-asking.ensures) at c.ask.ensures.heard) in
-    let before : AreCallsOf g.K.Tie.names.roster (map (λ h. h.calls) hs) c.args.self.now.traced.past =
-    subst (λ (xs : List KernelCalls). AreCallsOf g.K.Tie.names.roster
-    (map (λ h. h.calls) xs) c.args.self.now.traced.past) (sym c.agree.ensures.heard) c.args.self.now.heard_all in
-    subst (λ ls. AreCallsOf g.K.Tie.names.roster ls c.perform-made.new.self.past)
-    (sym (map-set (λ h. h.calls) hs c.index-cell.result c.ask.new.heard))
-    (heard_event g.K.Tie.names.roster g.L.Log.refuses g.L.Log.admits
-    (map (λ h. h.calls) hs) c.args.scratch.now.seat.thread c.index-cell.result c.args.call.now c.args.self.now.traced
-    c.perform-made.new.self (c.requires.seat.0 ∙ ap Some (sym c.index-cell.ensures)) p
-    c.perform-made.ensures.performs
-    (is ∙ sym c.is_ok.ensures.value ∙ c.if-is_ok.true) (omega (arith, near, long)) c.ask.new.heard.calls told before)
-
-pub invariant_of-self-else-is_ok-clause-named : goal.invariant_of-self-else-is_ok-clause-named
-invariant_of-self-else-is_ok-clause-named g c = (
-  ap (map (λ h. h.name)) c.agree.ensures.heard ∙ c.args.self.now.named.0,
-  ap length c.agree.ensures.heard
-      ∙ c.args.self.now.named.1,
-)
-
-pub invariant_of-self-else-is_ok-clause-heard_all : goal.invariant_of-self-else-is_ok-clause-heard_all
-invariant_of-self-else-is_ok-clause-heard_all g c =
-    let made = c.perform-made in
-    let p = called_by made.result made.new.scratch.own c.args.call.now in
-    let is = is_event made.result made.new.scratch.own c.args.call.now in
-    subst (λ (xs : List KernelCalls). AreCallsOf g.K.Tie.names.roster
-    (map (λ h. h.calls) xs) c.perform-made.new.self.past) (sym c.agree.ensures.heard)
-    (heard_refused g.K.Tie.names.roster g.L.Log.refuses g.L.Log.admits
-    (map (λ h. h.calls) c.args.self.now.heard.items) c.args.scratch.now.seat.thread c.index-cell.result c.args.call.now
-    c.args.self.now.traced c.perform-made.new.self (c.requires.seat.0 ∙ ap Some (sym c.index-cell.ensures))
-    p c.perform-made.ensures.performs
-    (is ∙ sym c.is_ok.ensures.value ∙ c.if-is_ok.false) c.args.self.now.heard_all)
-
-pub returns-clause-met : goal.returns-clause-met
-returns-clause-met g c = record {
-  lawful = c.len-events.ensures.lawful.0;
-  properties = c.len-events.ensures.lawful.1;
-  calls =
-      sym (c.agree.ensures.agreed ∙ c.args.self.now.heard_all c.args.scratch.now.seat.thread c.index-cell.result
-      (c.requires.seat.0 ∙ ap Some (sym c.index-cell.ensures)));
-  extends = c.perform-made.ensures.extends;
-}
-
-pub returns-clause-came : goal.returns-clause-came
-returns-clause-came g c =
-    let made = c.perform-made in
-    let p = called_by made.result made.new.scratch.own c.args.call.now in
-    let came = comes g.K.Tie.names.roster g.L.Log.refuses g.L.Log.admits [] c.args.scratch.now.seat.thread
-    c.index-cell.result c.args.call.now c.args.self.now.traced c.perform-made.new.self
-    (c.requires.seat.0 ∙ ap Some (sym c.index-cell.ensures)) p c.perform-made.ensures.performs
-    c.perform-made.new.seen.trace c.perform-made.ensures.seen in
-    elim c.if-is_ok.branch [
-      | then-is_ok w ↦ rw w.scratch-is came
-      | else-is_ok w ↦ rw w.scratch-is came
-    ]
-
-pub returns-clause-busy : goal.returns-clause-busy
-returns-clause-busy g c =
-    elim c.if-is_ok.branch [
-      | then-is_ok w ↦ rw w.scratch-is c.perform-made.ensures.busy
-      | else-is_ok w ↦ rw w.scratch-is c.perform-made.ensures.busy
-    ]
-
-pub returns-clause-idle : goal.returns-clause-idle
-returns-clause-idle g c =
-    elim c.if-is_ok.branch [
-      | then-is_ok w ↦ rw w.scratch-is c.perform-made.ensures.idle
-      | else-is_ok w ↦ rw w.scratch-is c.perform-made.ensures.idle
-    ]
-
-pub perform-made-requires-clause-pending : goal.perform-made-requires-clause-pending
-perform-made-requires-clause-pending g c = λ p.
-    let t = c.args.scratch.now.seat.thread in
-    subst (λ cs. WaitedBefore c.args.seen.now.trace cs t)
-    (c.agree.ensures.agreed ∙ c.args.self.now.heard_all t c.index-cell.result
-    (c.requires.seat.0 ∙ ap Some (sym c.index-cell.ensures))) (c.requires.pending p)
+pub call-made-requires : goal.call-made-requires
+call-made-requires g c =
+    let named = c.args.self.now.named.0 in
+    let port = c.requires.port in
+    record {
+      cells = (
+        c.requires.cells.0 ∙ sym named.1,
+        c.requires.cells.1.0 ∙ sym named.0,
+        c.requires.cells.1.1 ∙ sym named.2,
+      );
+      port = record {
+        cells = port.cells ∙ sym named.1;
+        at = ap (λ r. place (threads_of r) c.args.port.now.thread) named.0 ∙ port.at;
+        asked = rw (c.args.self.now.named.1) port.asked;
+        seen = port.seen ∙ sym named.2;
+      };
+      copies = c.requires.copies;
+    }

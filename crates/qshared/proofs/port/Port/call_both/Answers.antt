@@ -15,13 +15,13 @@ returns-clause-came g c =
         holds = (
           sym w.if-is_ok.ensures,
           (
-            c.make_whole-first.new.self.seen.trace,
+            c.make_whole-first.new.self.core.seen.trace,
             w.in-Done.ensures.came,
-            subst (λ past. Answered roster log.refuses log.admits self.thread c.args.second w.make_whole-second.result
-                past w.make_whole-second.new.self.seen.trace) w.in-Done.ensures.past
+            subst (λ past. Answered roster log.refuses log.admits self.core.thread c.args.second w.make_whole-second.result
+                past w.make_whole-second.new.self.core.seen.trace) w.in-Done.ensures.past
                 (subst
                 (λ t. Answered roster log.refuses log.admits t c.args.second w.make_whole-second.result
-                c.make_whole-first.new.locked.traced.past w.make_whole-second.new.self.seen.trace)
+                c.make_whole-first.new.locked.desk.traced.past w.make_whole-second.new.self.core.seen.trace)
                 w.in-Done.ensures.same.0 w.make_whole-second.ensures.came),
           ),
         );
@@ -61,7 +61,7 @@ returns-clause-same g c =
 
 pub returns-clause-asked : goal.returns-clause-asked
 returns-clause-asked g c =
-    let old = c.args.self.now.asked.calls in
+    let old = c.args.self.now.core.asked.calls in
     elim c.match-first.branch [
       | in-Done+then-is_ok w ↦
           let more = cond (is_call w.make_whole-second.result) (c.args.second ∷ []) [] in
@@ -76,7 +76,7 @@ returns-clause-asked g c =
 pub returns-clause-taken : goal.returns-clause-taken
 returns-clause-taken g c =
     let self = c.args.self.now in
-    let old = collected self.last.trace self.thread (taken self.seat) in
+    let old = collected self.core.last.trace self.core.thread (taken self.core.seat) in
     elim c.match-first.branch [
       | in-Done+then-is_ok w ↦
           let more = gives w.make_whole-second.result in

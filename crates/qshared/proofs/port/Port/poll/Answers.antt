@@ -1,24 +1,12 @@
-use Rattle.qshared.specs.Due.{at_once}
-use Rattle.qshared.proofs.Common.{refl, thread_of}
-use Rattle.qshared.proofs.Turns.{takes}
-use Rattle.qshared.proofs.Waiting.{awaited, arrives_at, since_learned}
+use Rattle.qshared.proofs.Common.{ap, sym, ◌∙◌, place, threads_of}
 use Rattle.qshared.proofs.port.Port.poll.Goals as goal
 
-pub returns-clause-taken : goal.returns-clause-taken
-returns-clause-taken g c =
+pub poll-requires : goal.poll-requires
+poll-requires g c =
     let self = c.args.self.now in
-    takes (at_once self.last.trace self.thread) _ _ c.take.new.place _ _ c.take.ensures.taken c.take.ensures.pending
-    self.later
-
-pub returns-clause-came : goal.returns-clause-came
-returns-clause-came g c =
-    let self = c.args.self.now in
-    awaited g.K.Tie.names.roster self.thread (thread_of self.seat) self.asked.calls self.last.trace self.seen
-    c.take.new.seen c.take.new.place _ _ _ _ self.thread_is self.calls_are self.since self.later c.take.ensures.taken
-    c.take.ensures.pending c.take.ensures.seen
-    (arrives_at c.take.new.place _ _ _ _ _ _ c.args.shared.now.origin_is.0 refl c.take.ensures.arrives)
-
-pub invariant_of-self-clause-since : goal.invariant_of-self-clause-since
-invariant_of-self-clause-since g c =
-    let self = c.args.self.now in
-    since_learned c.take.new.place self.seen c.take.new.seen self.last.trace c.take.ensures.seen self.since
+    let origin = c.args.shared.now.origin_is in
+    record {
+      cells = self.core_is.cells ∙ sym c.args.shared.now.cells_are;
+      at = ap (λ r. place (threads_of r) self.core.thread) origin.0 ∙ self.core_is.at;
+      seen = self.core_is.seen ∙ sym origin.1;
+    }

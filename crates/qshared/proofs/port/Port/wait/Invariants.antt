@@ -4,7 +4,7 @@ use Rattle.qshared.proofs.port.Port.wait.Given as goal
 -- nothing was taken yet
 abbrev pub invariant-loop : goal.invariant-loop
 invariant-loop g l =
-    (collected l.self.last.trace l.self.thread (taken l.self.seat) ≡ collected l.fn.self.last.trace l.fn.self.thread
-    (taken l.fn.self.seat)) × (l.self.thread ≡ l.fn.self.thread) × (thread_of l.self.seat ≡ thread_of l.fn.self.seat)
-    × (l.self.calls ≡ l.fn.self.calls) × (l.self.asked ≡ l.fn.self.asked) × (l.self.seen ≡ l.fn.self.seen)
-    × (l.self.scratch.pending ≡ true) × (l.self.last ≡ l.fn.self.last)
+    (collected l.self.core.last.trace l.self.core.thread (taken l.self.core.seat) ≡ collected l.fn.self.core.last.trace l.fn.self.core.thread
+    (taken l.fn.self.core.seat)) × (l.self.core.thread ≡ l.fn.self.core.thread) × (thread_of l.self.core.seat ≡ thread_of l.fn.self.core.seat)
+    × (l.self.calls ≡ l.fn.self.calls) × (l.self.core.asked ≡ l.fn.self.core.asked) × (l.self.core.seen ≡ l.fn.self.core.seen)
+    × (l.self.core.turn.pending ≡ true) × (l.self.core.last ≡ l.fn.self.core.last)
