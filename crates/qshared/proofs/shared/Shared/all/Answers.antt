@@ -8,7 +8,7 @@ returns-then-thread-k g c = let p = c.index-ports-k.result in
     let at = at_index c.args.ports.now c.loop-k.k p c.loop-k-test.true c.index-ports-k.is in (
       search rules,
       λ all. absurd
-          (c.if-thread-k.true (c.thread.ensures.number ∙ ap (λ q. thread_of q.seat) (sym c.index-ports-k.is)
+          (c.if-thread-k.true (c.thread.ensures.number ∙ ap (λ q. thread_of q.core.seat) (sym c.index-ports-k.is)
           ∙ all.1 c.loop-k.k p at)),
     )
 
@@ -16,8 +16,8 @@ pub loop-k-preserved : goal.loop-k-preserved
 loop-k-preserved g c = λ j q h e. let p = c.index-ports-k.result in
     let at = at_index c.args.ports.now c.loop-k.k p c.loop-k-test.true c.index-ports-k.is in
     dite (ℕ_discrete j c.loop-k.k)
-    (λ same. ap (λ r. thread_of r.seat) (some-injective q p (sym e ∙ ap (get_elem? c.args.ports.now) same ∙ at))
-    ∙ ap (λ r. thread_of r.seat) c.index-ports-k.is ∙ sym c.thread.ensures.number ∙ c.if-thread-k.false ∙ sym same)
+    (λ same. ap (λ r. thread_of r.core.seat) (some-injective q p (sym e ∙ ap (get_elem? c.args.ports.now) same ∙ at))
+    ∙ ap (λ r. thread_of r.core.seat) c.index-ports-k.is ∙ sym c.thread.ensures.number ∙ c.if-thread-k.false ∙ sym same)
     (λ other. c.loop-k.invariant j q (omega (arith, other)) e)
 
 pub returns : goal.returns
