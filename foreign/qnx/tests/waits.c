@@ -113,6 +113,7 @@ void semaphore_limits(void) {
 }
 
 static pthread_mutex_t held = PTHREAD_MUTEX_INITIALIZER;
+static sem_t tried; /* the timed tries are over */
 
 static void *try_mutex(void *argument) {
     struct timespec past = {1, 0};
@@ -124,15 +125,17 @@ static void *try_mutex(void *argument) {
     set_timeout(_NTO_TIMEOUT_MUTEX, far_off);
     check(pthread_mutex_timedlock_monotonic(&held, &limit) == ETIMEDOUT);
     check(now_in_nanoseconds() >= timespec2nsec(&limit));
+    check(sem_post(&tried) == 0);
     check(pthread_mutex_lock(&held) == 0 && pthread_mutex_unlock(&held) == 0); /* without a timeout */
     return argument;
 }
 
 void mutex_limits(void) {
     pthread_mutex_t again = PTHREAD_RMUTEX_INITIALIZER;
-    check(pthread_mutex_lock(&held) == 0);
+    check(sem_init(&tried, 0, 0) == 0 && pthread_mutex_lock(&held) == 0);
     pthread_t other = start(try_mutex, NULL);
-    usleep(50000);
+    check(sem_wait(&tried) == 0);
+    usleep(20000);
     check(pthread_mutex_unlock(&held) == 0 && result_of(other) == 0);
     check(pthread_mutex_lock(&again) == 0 && pthread_mutex_lock(&again) == 0);
     check(pthread_mutex_unlock(&again) == 0 && pthread_mutex_unlock(&again) == 0);
