@@ -28,7 +28,11 @@ pub fn run_serve<R: Files + Print + Eprint + AllocGlobal + Threads + Wait + Cloc
     terminal: bool,
 ) -> ExitCode {
     if run.hold && (run.clients < 2 || run.servers != 1) {
-        return end_with(rt, "--hold needs at least two clients and one server", 2);
+        return end_with(
+            rt,
+            "--hold needs exactly one server, and two clients or more",
+            2,
+        );
     }
     let settings = Settings {
         clients: run.clients,

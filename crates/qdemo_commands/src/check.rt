@@ -170,7 +170,10 @@ impl<R: Files + Print + Eprint + AllocGlobal + Clone + Drop> CheckRunner<'_, R> 
 
     /// Counts the outcome of an example, and prints its report: in words, or as an object of JSON.
     fn tell(&mut self, example: &Example, report: &ExampleReport) -> io::Result<()> {
-        self.tally.add(report.outcome);
+        match (report.outcome, example.what) {
+            ("without", "verdict") => self.tally.add("without a verdict"),
+            (outcome, _) => self.tally.add(outcome),
+        }
         let alloc = self.rt.alloc();
         let mut text = String::new(alloc);
         if self.run.json {
@@ -216,7 +219,7 @@ impl<R: Files + Print + Eprint + AllocGlobal + Clone + Drop> CheckRunner<'_, R> 
                 self.tell_difference(example, text, difference)
             }
             None => {
-                let words = format!(in alloc; "no {what}")?;
+                let words = format!(in alloc; "no {what}; --update writes {trace}")?;
                 self.tell_words(example, "without", words.as_str())
             }
         }

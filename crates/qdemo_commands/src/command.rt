@@ -1,8 +1,10 @@
 //! Unproved: words and layout. The command line.
 
+mod advice;
 mod options;
 
 use crate::colours::Screen;
+use advice::advised;
 use clap::{ArgMatches, Error};
 use options::command;
 use std::alloc::{AllocError, Global};
@@ -243,6 +245,8 @@ fn action_in(alloc: Global, matches: &ArgMatches<'_>, screen: Screen) -> Run<Act
 /// Returns the action that a command line asks for, with these outputs. The first word is the program's name.
 /// The error may be a help text that was requested.
 pub fn action_of(alloc: Global, words: &[String], screen: Screen) -> Result<Action, Error> {
-    let matches = command(alloc)?.try_get_matches_from(words)?;
-    Ok(action_in(alloc, &matches, screen)?)
+    match command(alloc)?.try_get_matches_from(words) {
+        Ok(matches) => Ok(action_in(alloc, &matches, screen)?),
+        Err(error) => Err(advised(alloc, words, error)?),
+    }
 }

@@ -5,10 +5,11 @@ mod search_end;
 
 use crate::colours::{Mood, marks};
 use crate::command::ExploreRun;
-use crate::completion::{end_failed, end_unwritten, print_text, text_of};
+use crate::completion::{end_failed, end_unwritten, end_with, print_text, text_of};
 use crate::json::faults::{faults_in, list_of};
 use crate::json::push_line;
 use crate::json::verdicts::verdict_of;
+use crate::kinds::{OtherKind, TextKind};
 use crate::remarks::FaultSource;
 use qexplore::explore::Observer;
 use qexplore_design::design_fault::DesignFault;
@@ -124,6 +125,9 @@ pub fn run_explore<R: Files + Input + Print + Eprint + AllocGlobal>(
         Ok(DesignReading::Good(design)) => design,
         Ok(DesignReading::Faulty(faults)) => {
             print_faulty(rt, run, file, faults.as_slice())?;
+            if let Some(other) = OtherKind::of(file, text, TextKind::Design) {
+                return Err(end_with(rt, other, 1));
+            }
             let source = FaultSource::new(Some(file), text, errors, colours.errors);
             return Err(source.end_faulty(rt, faults.as_slice()));
         }

@@ -11,6 +11,7 @@ pub mod designs;
 pub mod difference;
 pub mod example;
 pub mod json;
+pub mod kinds;
 pub mod names;
 pub mod play;
 pub mod remarks;

@@ -1,12 +1,14 @@
 //! Unproved: words and layout. Runs a script with names, or prints its plain script.
 
 use crate::command::ScriptRun;
-use crate::completion::{ExitResult, end_failed, print_text, text_of};
+use crate::completion::{ExitResult, end_failed, end_with, print_text, text_of};
 use crate::json::events::{EventWriter, push_blocked};
 use crate::json::faults::{faults_in, lines_of};
 use crate::json::names::{LabelPlaces, ScriptLabels};
 use crate::json::push_line;
+use crate::kinds::{OtherKind, TextKind};
 use crate::remarks::FaultSource;
+use crate::scripts::refuse_empty;
 use qscript_explain::report::{ReportedRun, RunReport};
 use qscript_names::names_fault::NamesFault;
 use qscript_names::{NamedReading, NamedScript, read};
@@ -65,6 +67,7 @@ pub fn run_named<R: Files + Input + Print + Eprint + AllocGlobal>(
     let text = text_of(rt, file)?;
     let shows = run.explain || run.screen.errors;
     let source = FaultSource::new(file, text.as_slice(), shows, run.screen.colours.errors);
+    refuse_empty(rt, file, Some(source.text))?;
     match read(rt.alloc(), source.text) {
         Ok(NamedReading::Good(mut named)) => run_read(rt, run, source, &mut named),
         Ok(NamedReading::Faulty(faults)) => Err(end_named(rt, run, source, faults.as_slice())),
@@ -88,7 +91,8 @@ fn run_read<R: Print + Eprint + AllocGlobal>(
     }
 }
 
-/// Prints the trace of a script with names, and reports the differences from its expectations.
+/// Prints the trace of a script with names, and reports the differences from its expectations. With
+/// `--strict` the status is 1 if a call failed.
 fn print_outcome<R: Print + Eprint + AllocGlobal>(
     rt: &R,
     run: &ScriptRun,
@@ -100,13 +104,14 @@ fn print_outcome<R: Print + Eprint + AllocGlobal>(
         let _ = source.tell_report(rt, report);
     }
     if faults.is_empty() {
-        return Ok(ExitCode::SUCCESS);
+        let is_refused = run.strict && report.failures > 0;
+        return Ok(ExitCode::from(u8::from(is_refused)));
     }
     Err(end_named(rt, run, source, faults.as_slice()))
 }
 
 /// Ends the program for these faults of a script with names, and prints them. With `--json` they are also
-/// printed as objects.
+/// printed as objects. For a file of another kind the right command is named instead.
 fn end_named<R: Print + Eprint + AllocGlobal>(
     rt: &R,
     run: &ScriptRun,
@@ -117,6 +122,11 @@ fn end_named<R: Print + Eprint + AllocGlobal>(
         && let Err(code) = print_faults(rt, faults)
     {
         return code;
+    }
+    if let Some(file) = source.file
+        && let Some(other) = OtherKind::of(file, source.text, TextKind::Named)
+    {
+        return end_with(rt, other, 1);
     }
     source.end_faulty(rt, faults)
 }

@@ -7,7 +7,9 @@ pub mod transcript;
 
 use crate::command::PlayRun;
 use crate::completion::{end_failed, end_unwritten, tell_failed, tell_fault, tell_unread, text_of};
+use crate::kinds::{OtherKind, TextKind};
 use crate::names::is_named;
+use crate::remarks;
 use crate::remarks::FaultSource;
 use command::{PlayCommand, order_of};
 use fault::PlayFault;
@@ -104,15 +106,37 @@ impl<R: Files + Input + Print + Eprint + AllocGlobal> Play<'_, R> {
                 self.tell_faults(faults.as_slice(), file, text);
                 return Ok(true);
             }
-            Ok(Accepted::Plain(number, fault)) => {
-                let told = format_args!("{name}: line {number}: {fault}");
-                tell_fault(self.rt, self.colours, told);
-            }
-            Ok(Accepted::Named(faults)) => self.tell_faults(faults.as_slice(), file, text),
+            Ok(Accepted::Plain(..)) => self.tell_plain(name, text),
+            Ok(Accepted::Named(faults)) => self.tell_named(name, text, faults.as_slice()),
             Err(ScriptFault::NoMemory) => return Err(AllocError.into()),
             Err(fault) => tell_failed(self.rt, format_args!("{name}: {fault}")),
         }
         Ok(false)
+    }
+
+    /// Reports the faults of a plain script in a file.
+    fn tell_plain(&self, name: &str, text: &[u8]) {
+        if !self.tell_other(name, text, TextKind::Plain) {
+            let source = FaultSource::new(Some(name), text, self.terminal, self.colours);
+            remarks::tell_faults(self.rt, source);
+        }
+    }
+
+    /// Reports the faults of a script with names in a file.
+    fn tell_named(&mut self, name: &str, text: &[u8], faults: &[Fault<NamesFault>]) {
+        if !self.tell_other(name, text, TextKind::Named) {
+            self.tell_faults(faults, Some(name), text);
+        }
+    }
+
+    /// Names the command that reads a faulty text, if this is of another kind than `read`. Returns whether it
+    /// is.
+    fn tell_other(&self, name: &str, text: &[u8], read: TextKind) -> bool {
+        let other = OtherKind::of(name, text, read);
+        if let Some(other) = other {
+            tell_fault(self.rt, self.colours, other);
+        }
+        other.is_some()
     }
 
     /// Reports faults of a script with names. Their places are in `text`, the text of a file or the lines
@@ -157,7 +181,7 @@ impl<R: Files + Input + Print + Eprint + AllocGlobal> Play<'_, R> {
             }
             PlayCommand::Undo => self.undo()?,
             PlayCommand::Save(name) => self.save(name),
-            PlayCommand::Words => self.refuse(PlayFault::ExtraWord),
+            PlayCommand::Fault(why) => self.refuse(why),
             PlayCommand::Line => self.take(line)?,
         }
         Ok(true)
@@ -175,7 +199,7 @@ impl<R: Files + Input + Print + Eprint + AllocGlobal> Play<'_, R> {
     }
 
     /// Reports that the action of a line can't be done.
-    fn refuse(&mut self, why: PlayFault) {
+    fn refuse(&mut self, why: PlayFault<'_>) {
         self.faulty = true;
         if self.terminal {
             tell_fault(self.rt, self.colours, why);
@@ -235,12 +259,9 @@ impl<R: Files + Input + Print + Eprint + AllocGlobal> Play<'_, R> {
         Ok(())
     }
 
-    /// Reports the fault of a line of a plain script, and explains it on a terminal.
+    /// Reports the fault of a line of a plain script, and explains it.
     fn tell_fault(&mut self, line: &[u8], number: u64, fault: LineFault) -> io::Result<()> {
         self.refuse(PlayFault::Line(fault));
-        if !self.terminal {
-            return Ok(());
-        }
         let text = self.text_with(line)?;
         if let Some(explanation) = explain(self.rt.alloc(), text.as_slice(), number, fault)? {
             eprintln!(self.rt; "{}", explanation.text(self.rt.alloc())?)?;

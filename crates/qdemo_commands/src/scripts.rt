@@ -6,6 +6,7 @@ use crate::json::events::{EventWriter, push_blocked};
 use crate::json::faults::{faults_told, lines_of};
 use crate::json::names::PlainLines;
 use crate::json::push_line;
+use crate::kinds::{NoLine, OtherKind, TextKind, has_line};
 use crate::names::{is_named, run_named};
 use crate::remarks;
 use crate::remarks::tell_faults;
@@ -63,7 +64,11 @@ fn run_plain<R: Print + Eprint + AllocGlobal, S: Read + Drop>(
     let mut reader = Watched::new(KeptReader::new(rt.alloc(), input, keeps));
     let mut writer = Watched::new(Outlet::new(io::writer(rt)));
     match script(rt.alloc(), &mut reader, &mut writer) {
-        Ok(()) => Ok(ExitCode::SUCCESS),
+        Ok(()) => {
+            let source = reader.into_inner();
+            refuse_empty(rt, run.file.as_deref(), source.text())?;
+            Ok(ExitCode::SUCCESS)
+        }
         Err(ScriptFault::Write) if writer.into_inner().is_closed() => Err(end_quietly()),
         Err(fault) => Err(end_faulty(rt, run, fault, &reader.into_inner())),
     }
@@ -84,6 +89,7 @@ fn explain_from<R: Print + Eprint + AllocGlobal, S: Read + Drop>(
     });
     let source = reader.into_inner();
     let (trace, report) = explained.map_err(|fault| end_faulty(rt, run, fault, &source))?;
+    refuse_empty(rt, run.file.as_deref(), source.text())?;
     print_text(rt, trace.as_str())?;
     if run.explain {
         let text = source.text().unwrap_or(&[]);
@@ -93,6 +99,20 @@ fn explain_from<R: Print + Eprint + AllocGlobal, S: Read + Drop>(
     }
     let is_refused = run.strict && report.failures > 0;
     Ok(ExitCode::from(u8::from(is_refused)))
+}
+
+/// Ends the program if a file has no line of a script. Standard input may have none.
+pub fn refuse_empty<R: Eprint>(
+    rt: &R,
+    file: Option<&str>,
+    text: Option<&[u8]>,
+) -> Result<(), ExitCode> {
+    if let (Some(file), Some(text)) = (file, text)
+        && !has_line(text)
+    {
+        return Err(end_with(rt, NoLine(file), 1));
+    }
+    Ok(())
 }
 
 /// Returns the lines of JSON that a script prints, and the report of the same run.
@@ -151,7 +171,8 @@ fn fault_lines(alloc: Global, run: &ScriptRun, text: &[u8]) -> Result<String, Al
 
 /// Ends the program for a script that has no run, and prints why. If explanations are requested, or on a
 /// terminal, its faults are explained. Otherwise only the first fault is printed, with its place if the
-/// script has a file. With `--json` the faults are also printed as objects.
+/// script has a file. With `--json` the faults are also printed as objects. For a file of another kind the
+/// right command is named instead.
 fn end_faulty<R: Print + Eprint + AllocGlobal, S>(
     rt: &R,
     run: &ScriptRun,
@@ -167,6 +188,11 @@ fn end_faulty<R: Print + Eprint + AllocGlobal, S>(
             && let Err(code) = print_faults(rt, run, text)
         {
             return code;
+        }
+        if let Some(name) = file
+            && let Some(other) = OtherKind::of(name, text, TextKind::Plain)
+        {
+            return end_with(rt, other, 1);
         }
         let shows = run.explain || run.screen.errors;
         let faulty = remarks::FaultSource::new(file, text, shows, run.screen.colours.errors);

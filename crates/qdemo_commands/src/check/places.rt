@@ -3,6 +3,7 @@
 use super::CheckRunner;
 use crate::completion::tell_failed;
 use crate::designs::is_design;
+use crate::kinds::TextKind;
 use crate::names::is_named;
 use std::alloc::{AllocError, Global};
 use std::rt::Files;
@@ -48,11 +49,21 @@ impl<R: Files + Print + Eprint + AllocGlobal + Clone + Drop> CheckRunner<'_, R> 
             let path = path.as_str();
             match fs::metadata(self.rt, path) {
                 Ok(metadata) if metadata.is_dir() => self.push_folder(path, &mut examples)?,
-                Ok(_) => examples.push(Example::new(alloc, path, path)?)?,
+                Ok(_) if TextKind::of_name(path).is_some() => {
+                    examples.push(Example::new(alloc, path, path)?)?;
+                }
+                Ok(_) => self.refuse_file(path),
                 Err(error) => self.count_unread(path, error)?,
             }
         }
         Ok(examples)
+    }
+
+    /// Reports a file that isn't called like a script or a design, and counts it.
+    fn refuse_file(&mut self, path: &str) {
+        let why = "no script: expected NAME.txt, NAME.names or NAME.design";
+        tell_failed(self.rt, format_args!("{path}: {why}"));
+        self.tally.add("unread");
     }
 
     /// Adds the scripts of a folder, sorted by name.

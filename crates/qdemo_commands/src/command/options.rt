@@ -5,18 +5,33 @@ use clap::builder::ValueParser;
 use clap::{Arg, ArgAction, Command, value_parser};
 use std::alloc::{AllocError, Global};
 
-/// The option that explains faults: its name and its help.
-const EXPLAIN: &str =
-    "explain: Explain faulty lines, and for script also failed calls and waiting threads";
+/// An option without a value: its name, its help, and the names of options that it excludes, with a blank
+/// between them.
+type Flag<'a> = (&'a str, &'a str, &'a str);
 
-/// The option that prints JSON: its name and its help.
-const JSON: &str = "json: Print an object of JSON in each line";
+/// The option that explains faults.
+const EXPLAIN: Flag<'static> = (
+    "explain",
+    "Explain faulty lines, and for script also failed calls and waiting threads",
+    "",
+);
 
-/// The option that reads names: its name and its help.
-const NAMES_IN: &str = "names-in: Read a script with names, whatever the name of its file";
+/// The help of the option that prints JSON.
+const JSON: &str = "Print an object of JSON in each line";
 
-/// The option that prints names: its name and its help.
-const NAMES: &str = "names: Print names in place of numbers, as on a terminal";
+/// The option that reads names.
+const NAMES_IN: Flag<'static> = (
+    "names-in",
+    "Read a script with names, whatever the name of its file",
+    "",
+);
+
+/// The option that prints names.
+const NAMES: Flag<'static> = (
+    "names",
+    "Print names in place of numbers, as on a terminal",
+    "",
+);
 
 /// A command line, or an error if there is no memory to build it.
 type Build<'a> = Result<Command<'a>, AllocError>;
@@ -29,10 +44,15 @@ fn subcommand<'a>(alloc: Global, name: &'a str, texts: &'static Texts) -> Comman
         .after_help(texts.example)
 }
 
-/// Adds options without a value, each `NAME: HELP`.
-fn with_flags<'a>(alloc: Global, mut command: Command<'a>, flags: &[&'a str]) -> Build<'a> {
-    for (name, help) in flags.iter().filter_map(|flag| flag.split_once(": ")) {
-        let flag = Arg::new(alloc, name).long(name).help(help);
+/// Adds options without a value.
+fn with_flags<'a>(alloc: Global, mut command: Command<'a>, flags: &[Flag<'a>]) -> Build<'a> {
+    for (name, help, excluded) in flags {
+        let mut flag = Arg::new(alloc, *name).long(*name).help(*help);
+        if !excluded.is_empty() {
+            for other in excluded.split(' ') {
+                flag = flag.conflicts_with(other)?;
+            }
+        }
         command = command.arg(flag.action(ArgAction::SetTrue))?;
     }
     Ok(command)
@@ -46,7 +66,7 @@ fn option<'a>(alloc: Global, name: &'a str, value: &'a str, help: &'a str) -> Ar
         .help(help)
 }
 
-/// Returns an option with a number.
+/// Returns an option with a number. A negative number is its value, too, which the parser then refuses.
 fn number<'a>(
     alloc: Global,
     name: &'a str,
@@ -54,7 +74,9 @@ fn number<'a>(
     parser: ValueParser<'a>,
     help: &'a str,
 ) -> Arg<'a> {
-    option(alloc, name, value, help).value_parser(parser)
+    option(alloc, name, value, help)
+        .value_parser(parser)
+        .allow_negative_numbers(true)
 }
 
 /// Returns the argument that is a file.
@@ -75,10 +97,18 @@ fn serve_command<'a>(alloc: Global) -> Build<'a> {
         .arg(number(alloc, "servers", "M", servers, servers_help).default_value("1"))?
         .arg(number(alloc, "rounds", "K", rounds, rounds_help).default_value("1"))?;
     let flags = [
-        "hold: Keep the first message until a second is received",
-        "time: Print how long the run and its round trips took",
-        "json: Print one JSON object in place of lines",
-        "quiet: Show no progress",
+        (
+            "hold",
+            "Keep the first message until a second is received",
+            "",
+        ),
+        (
+            "time",
+            "Print how long the run and its round trips took",
+            "",
+        ),
+        ("json", "Print one JSON object in place of lines", ""),
+        ("quiet", "Show no progress", ""),
     ];
     let command = with_flags(alloc, command, &flags)?;
     let help = "Write the kernel's calls as a script NAME.txt with its NAME.trace";
@@ -89,11 +119,15 @@ fn serve_command<'a>(alloc: Global) -> Build<'a> {
 fn script_command<'a>(alloc: Global) -> Build<'a> {
     let flags = [
         EXPLAIN,
-        JSON,
+        ("json", JSON, "names plain"),
         NAMES,
         NAMES_IN,
-        "plain: Print a script with names as a plain script, and don't run it",
-        "strict: End with status 1 if a call failed",
+        (
+            "plain",
+            "Print a script with names as a plain script, and don't run it",
+            "names strict",
+        ),
+        ("strict", "End with status 1 if a call failed", ""),
     ];
     let help = "The script's file; standard input if missing or -";
     let command = subcommand(alloc, "script", &SCRIPT).arg(file(alloc, help))?;
@@ -107,16 +141,25 @@ fn check_command<'a>(alloc: Global) -> Build<'a> {
         .num_args(0..)
         .action(ArgAction::Append)
         .help("Scripts, and folders of scripts; the current folder if missing");
-    let update = "update: Write the traces and verdicts that are missing or differ";
+    let update = "Write the traces and verdicts that are missing or differ";
+    let flags = [("update", update, ""), EXPLAIN, ("json", JSON, "")];
     let command = subcommand(alloc, "check", &CHECK).arg(paths)?;
-    with_flags(alloc, command, &[update, EXPLAIN, JSON])
+    with_flags(alloc, command, &flags)
 }
 
 /// Returns the subcommand `chart`.
 fn chart_command<'a>(alloc: Global) -> Build<'a> {
     let flags = [
-        "text: Draw in columns of text and not as SVG, as on a terminal",
-        "bytes: Show the bytes of messages and replies, at most 8",
+        (
+            "text",
+            "Draw in columns of text and not as SVG, as on a terminal",
+            "",
+        ),
+        (
+            "bytes",
+            "Show the bytes of messages and replies, at most 8",
+            "",
+        ),
         NAMES_IN,
     ];
     let call = value_parser!(u32).range(1..4294967295);
@@ -137,26 +180,56 @@ fn chart_command<'a>(alloc: Global) -> Build<'a> {
 /// Returns the subcommand `explore`.
 fn explore_command<'a>(alloc: Global) -> Build<'a> {
     let help = "The design's file; standard input if missing or -";
-    let script = "script: Print only the run that shows a violation, as a script";
-    let json = "json: Print one JSON object in place of lines";
-    let listing = "listing: Print the design as rows of JSON, and explore nothing";
-    let symmetry = "no-symmetry: Distinguish equal copies: no symmetry reduction";
+    let script = "Print only the run that shows a violation, as a script";
+    let listing = "Print the design as rows of JSON, and explore nothing";
+    let symmetry = "Distinguish equal copies: no symmetry reduction";
+    let flags = [
+        ("script", script, "json"),
+        NAMES,
+        ("json", "Print one JSON object in place of lines", "names"),
+        (
+            "listing",
+            listing,
+            "script names json no-symmetry most random",
+        ),
+        ("no-symmetry", symmetry, "random"),
+    ];
     let count = value_parser!(u32).range(1..4294967295);
     let any = value_parser!(u32).range(0..4294967295);
     let most = "Give up when more than N states are visited";
     let random = "Make only N random interleavings";
     let seed = "Seed of the random interleavings; the same seed makes the same ones";
     let command = subcommand(alloc, "explore", &EXPLORE).arg(file(alloc, help))?;
-    with_flags(alloc, command, &[script, NAMES, json, listing, symmetry])?
-        .arg(number(alloc, "most", "N", count, most).default_value("1000000"))?
+    let most = number(alloc, "most", "N", count, most)
+        .default_value("1000000")
+        .conflicts_with("random")?;
+    let seed = number(alloc, "seed", "S", any, seed)
+        .default_value("1")
+        .requires_arg("random")?;
+    with_flags(alloc, command, &flags)?
+        .arg(most)?
         .arg(number(alloc, "random", "N", count, random))?
-        .arg(number(alloc, "seed", "S", any, seed).default_value("1"))
+        .arg(seed)
 }
 
 /// Returns the subcommand `play`.
 fn play_command<'a>(alloc: Global) -> Build<'a> {
     let command = subcommand(alloc, "play", &PLAY).arg(file(alloc, "A script to begin with"))?;
     with_flags(alloc, command, &[NAMES])
+}
+
+/// Returns the subcommand with this name, called as a user calls it, or the whole command line if there is
+/// none.
+pub(super) fn command_named<'a>(alloc: Global, name: &str) -> Build<'a> {
+    match name {
+        "script" => script_command(alloc)?.bin_name("qdemo script"),
+        "check" => check_command(alloc)?.bin_name("qdemo check"),
+        "play" => play_command(alloc)?.bin_name("qdemo play"),
+        "chart" => chart_command(alloc)?.bin_name("qdemo chart"),
+        "explore" => explore_command(alloc)?.bin_name("qdemo explore"),
+        "serve" => serve_command(alloc)?.bin_name("qdemo serve"),
+        _ => command(alloc),
+    }
 }
 
 /// Adds a subcommand, if there was memory for it.

@@ -97,7 +97,7 @@ fn end_without<R: Eprint + AllocGlobal>(
     ended: &SearchEnd,
 ) -> ExitCode {
     match ended.words(source, false) {
-        Ok(words) => end_with(rt, words.headline, 1),
+        Ok(words) => end_with(rt, format_args!("no fault to draw: {}", words.headline), 1),
         Err(_) => end_failed(rt, "out of memory"),
     }
 }
