@@ -1,6 +1,7 @@
 -- The completion in a row.
 use Rattle.std.specs.Prelude.{◌≡◌, ℕ, ◌==◌, length, List, [], take, Option, None, Some, option_map}
 use Rattle.std.specs.Prelude.{if◌then◌else◌}
+use Rattle.qbase.specs.Copying.{laid_count, lay_over}
 use Rattle.qbase.specs.declared.state.ThreadState.{ThreadState}
 use Rattle.qbase.specs.declared.state.ThreadState.TheVariants as state
 use Rattle.qqueue.specs.declared.item.What.{What}
@@ -24,14 +25,18 @@ what_of r =
     else if r.what == 4 then Some (what.Disconnect r.process)
     else None
 
+-- the thread state with this number, on this channel
+abbrev pub state_numbered : ℕ → ℕ → Option ThreadState
+state_numbered number channel =
+    if number == 1 then Some state.Ready
+    else if number == 2 then Some (state.SendBlocked channel)
+    else if number == 3 then Some (state.ReceiveBlocked channel)
+    else if number == 4 then Some (state.ReplyBlocked channel)
+    else None
+
 -- the thread state in a row
 abbrev pub state_of : Row → Option ThreadState
-state_of r =
-    if r.state == 1 then Some state.Ready
-    else if r.state == 2 then Some (state.SendBlocked r.id)
-    else if r.state == 3 then Some (state.ReceiveBlocked r.id)
-    else if r.state == 4 then Some (state.ReplyBlocked r.id)
-    else None
+state_of r = state_numbered r.state r.id
 
 -- the data of a held message in a row
 abbrev pub info_in : Row → Info
@@ -105,3 +110,10 @@ pub record Tells (r : Row) (s : State) (e : Completion) (at count : ℕ) : Type 
   pub of : IsOf r e at count
   pub mark : mark_of r ≡ Some e.mark
   pub message : TellsReceipt r s e
+
+-- the row has the completion x, without the data of the sender of a received message. The bytes of its buffer
+-- are at the beginning of the byte array, as far as there is room
+pub record IsRowOf (x : Completion) (old_bytes bytes : List ℕ) (r : Row) : Type 0 where
+  pub of : IsOf r x 0 (laid_count old_bytes 0 (told_bytes x))
+  pub mark : mark_of r ≡ Some x.mark
+  pub bytes_are : bytes ≡ lay_over old_bytes 0 (told_bytes x)

@@ -96,7 +96,7 @@ impl CallRequest {
         }
     }
 
-    /// Returns the call of a kind that isn't a Send or a Receive, like `call_as`.
+    /// Returns the call of a kind that isn't a Send, a Receive or a Reply, like `call_as`.
     #[inline(never)]
     fn other_call(
         &self,
@@ -139,6 +139,11 @@ impl CallRequest {
             CallKind::Receive => Ok(Call::Receive {
                 chid: ChannelId(self.id),
                 buffer: spares.copied(alloc, room)?,
+            }),
+            CallKind::Reply => Ok(Call::Reply {
+                rcvid: ReceiveId(self.id),
+                status: self.status,
+                bytes: spares.copied(alloc, sent)?,
             }),
             // The call is moved, so that the others needn't be written to memory.
             _ => Ok(self.other_call(kind, alloc, sent, room)?),

@@ -2,7 +2,8 @@
 
 ghost use Rattle.std.specs.Prelude.{◌≡◌, ℕ, length, Some};
 ghost use Rattle.qmodel.specs.declared.call.Completion.{Completion};
-ghost use Rattle.balsaeuchre_c.specs.Rows.{mark_of, told_bytes, Fills, IsOf, Tells, TellsMessage};
+ghost use Rattle.balsaeuchre_c.specs.Rows.{mark_of, state_numbered, told_bytes};
+ghost use Rattle.balsaeuchre_c.specs.Rows.{Fills, IsOf, Tells, TellsMessage};
 
 use crate::error::errno_number;
 use qbase::errno::Errno;
@@ -12,6 +13,18 @@ use qbase::state::ThreadState;
 use qkernel::call::{Completion, Info, Mark};
 use qkernel::kernel::Kernel;
 use qqueue::item::What;
+
+/// Returns the number of a state, 1 to 4, and its channel, or 0 for a thread that is ready.
+pub fn state_number(state: &ThreadState) -> (u8, u64)
+    ensures { state_numbered result.0 result.1 ≡ Some state.now }
+{
+    match state {
+        ThreadState::Ready => (1, 0),
+        ThreadState::SendBlocked(chid) => (2, chid.0),
+        ThreadState::ReceiveBlocked(chid) => (3, chid.0),
+        ThreadState::ReplyBlocked(chid) => (4, chid.0),
+    }
+}
 
 /// The completion of a call. `mark` says which fields are used; the others are 0.
 #[repr(C)]
@@ -144,16 +157,24 @@ impl Row {
         ensures same { (completion : Completion) → (start written : ℕ)
             → IsOf self.old completion start written → IsOf self.new completion start written }
     {
-        let (number, chid) = match state {
-            ThreadState::Ready => (1, 0),
-            ThreadState::SendBlocked(chid) => (2, chid.0),
-            ThreadState::ReceiveBlocked(chid) => (3, chid.0),
-            ThreadState::ReplyBlocked(chid) => (4, chid.0),
-        };
+        let (number, chid) = state_number(state);
         self.mark = 11;
         self.state = number;
         self.id = chid;
         self.priority = priority.get();
+    }
+
+    /// Writes the receipt of a message, without the data of its sender.
+    #[inline(always)]
+    fn set_receipt(&mut self, rcvid: ReceiveId, copied: usize)
+        ensures mark { mark_of self.new ≡ Some (Mark.Message rcvid copied) }
+        ensures count { self.new.count ≡ copied }
+        ensures same { (completion : Completion) → (start written : ℕ)
+            → IsOf self.old completion start written → IsOf self.new completion start written }
+    {
+        self.mark = 6;
+        self.rcvid = rcvid.0;
+        self.count = copied;
     }
 
     /// Writes the receipt of a message, with the data that the kernel has for it.
@@ -177,12 +198,10 @@ impl Row {
         }
     }
 
-    /// Writes the result of a completion of the kernel's last event.
+    /// Writes the result of a completion. The row of a received message has no data of its sender.
     #[inline(always)]
-    fn set_mark(&mut self, kernel: &Kernel, mark: &Mark)
+    fn set_plain_mark(&mut self, mark: &Mark)
         ensures mark { mark_of self.new ≡ Some mark.now }
-        ensures message { (rcvid copied : ℕ) → mark.now ≡ Mark.Message rcvid copied
-            → TellsMessage self.new kernel.now rcvid copied }
         ensures same { (completion : Completion) → (start written : ℕ)
             → IsOf self.old completion start written → IsOf self.new completion start written }
     {
@@ -198,7 +217,7 @@ impl Row {
                 self.id = coid.0;
             }
             Mark::Replied { status, copied } => self.set_replied(*status, *copied),
-            Mark::Message { rcvid, copied } => self.set_message(kernel, *rcvid, *copied),
+            Mark::Message { rcvid, copied } => self.set_receipt(*rcvid, *copied),
             Mark::Errored(code) => {
                 self.mark = 7;
                 self.value = *code;
@@ -217,6 +236,21 @@ impl Row {
         }
     }
 
+    /// Writes the result of a completion of the kernel's last event.
+    #[inline(always)]
+    fn set_mark(&mut self, kernel: &Kernel, mark: &Mark)
+        ensures mark { mark_of self.new ≡ Some mark.now }
+        ensures message { (rcvid copied : ℕ) → mark.now ≡ Mark.Message rcvid copied
+            → TellsMessage self.new kernel.now rcvid copied }
+        ensures same { (completion : Completion) → (start written : ℕ)
+            → IsOf self.old completion start written → IsOf self.new completion start written }
+    {
+        match mark {
+            Mark::Message { rcvid, copied } => self.set_message(kernel, *rcvid, *copied),
+            other => self.set_plain_mark(other),
+        }
+    }
+
     /// Writes a completion of the kernel's last event. `told_len` bytes of its buffer belong to it. They
     /// begin at `start` in C's array `bytes`, and `written` of them were written.
     pub fn write(
@@ -232,5 +266,30 @@ impl Row {
     {
         self.begin(completion, start, told_len, written);
         self.set_mark(kernel, &completion.mark);
+    }
+    /// Writes a completion, without the data of the sender of a received message. `told_len` bytes of its
+    /// buffer belong to it. They begin at `start` in C's array `bytes`, and `written` of them were written.
+    pub fn write_without_sender(
+        &mut self,
+        completion: &Completion,
+        start: usize,
+        told_len: usize,
+        written: usize,
+    )
+        requires { told_len ≡ length (told_bytes completion.now) }
+        ensures of { IsOf self.new completion.now start written }
+        ensures mark { mark_of self.new ≡ Some completion.now.mark }
+    {
+        self.begin(completion, start, told_len, written);
+        self.set_plain_mark(&completion.mark);
+    }
+
+    /// Returns the row of an `Info` with this data. Its fields of a call are 0.
+    pub fn of_info(info: &Info) -> Row
+        ensures { mark_of result ≡ Some (Mark.Info info.now) }
+    {
+        let mut row = Row::default();
+        row.set_info(info);
+        row
     }
 }

@@ -35,7 +35,7 @@ impl Spares {
 
     /// Keeps a buffer, if there is room for it, and otherwise frees it.
     #[inline(always)]
-    fn keep(&mut self, buffer: Bytes) {
+    pub fn keep(&mut self, buffer: Bytes) {
         let items = buffer.into_vec();
         let has_room = self.buffers.len() < self.buffers.capacity();
         if has_room && items.capacity() > 0 && items.capacity() <= MOST {

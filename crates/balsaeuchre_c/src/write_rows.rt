@@ -2,7 +2,7 @@
 
 ghost use Rattle.std.specs.Prelude.{◌≡◌, ◌≤◌, length, take};
 ghost use Rattle.qbase.specs.Copying.{lay_over, laid_count};
-ghost use Rattle.balsaeuchre_c.specs.Rows.{told_bytes};
+ghost use Rattle.balsaeuchre_c.specs.Rows.{told_bytes, IsRowOf, TellsReceipt};
 ghost use Rattle.balsaeuchre_c.specs.WriteRows.{IsTold};
 
 use crate::row::Row;
@@ -76,4 +76,24 @@ pub fn tell(
         bytes: start,
         call: kernel.made(),
     }
+}
+
+/// Writes a completion of a kernel's last event into a row, and the bytes of its buffer to the beginning of
+/// `bytes`, as far as there is room.
+pub fn tell_one(kernel: &Kernel, completion: &Completion, row: &mut Row, bytes: &mut [u8])
+    ensures row { IsRowOf completion.now bytes.old bytes.new row.new }
+    ensures message { TellsReceipt row.new kernel.now completion.now }
+{
+    let told = told_front(completion);
+    let written = lay_told(bytes, 0, told);
+    row.write(kernel, completion, 0, told.len(), written);
+}
+
+/// Writes a completion like `tell_one`, without the data of the sender of a received message.
+pub fn tell_without_sender(completion: &Completion, row: &mut Row, bytes: &mut [u8])
+    ensures { IsRowOf completion.now bytes.old bytes.new row.new }
+{
+    let told = told_front(completion);
+    let written = lay_told(bytes, 0, told);
+    row.write_without_sender(completion, 0, told.len(), written);
 }

@@ -3,6 +3,8 @@ use Rattle.qshared.proofs.Common.{◌≡◌, ℕ, suc, zero, ◌+◌, ◌<◌, L
 use Rattle.qshared.proofs.Common.{cond, arith, true, false, eqb, None, Some, is_some, ◌||◌, position_from}
 use Rattle.qshared.proofs.Common.{AllByRecursion, eqb-true, ne_eqb, eq-eqb, true≢false, position_from-zero, same_Some}
 use Rattle.qshared.proofs.Common.{none-some, is_among, Rises, threads_of, members_of, is_there, member_at, place}
+use Rattle.qshared.proofs.Common.{IsRoster, Member, length-map, rises}
+use Rattle.std.proofs.lemmas.List.{get_or-map}
 use Rattle.qkernel_state.specs.declared.thread_ref.ThreadRef.{ThreadRef}
 use Rattle.qkernel_state.specs.declared.thread.Thread.{Thread}
 use Rattle.qkernel_state.specs.Thread.{seat_in}
@@ -97,6 +99,14 @@ pub place_found : (ts xs : List ℕ) (k d t : ℕ) → Rises ts → xs ≡ ts �
     → place ts t ≡ Some k
 place_found ts xs k d t r same l is = ap (place ts) (is ∙ ap (λ ys. get_or ys k d) same)
     ∙ place_at ts k d r (omega (arith, l, ap length same))
+
+-- the thread of the member at an index of a roster has this index
+pub place_of_member : (roster : List Member) (k : ℕ) (m d : Member) → IsRoster roster → k < length roster
+    → m ≡ get_or roster k d → place (threads_of roster) m.thread ≡ Some k
+place_of_member roster k m d rising below is = ap (λ x. place (threads_of roster) x.thread) is
+    ∙ ap (place (threads_of roster)) (sym (get_or-map (λ x. x.thread) roster k d 0 below))
+    ∙ place_at (threads_of roster) k 0 (rises roster rising)
+    (omega (arith, below, length-map roster (λ x. x.thread)))
 
 -- ---- thread indices of the kernel
 

@@ -1,9 +1,12 @@
 -- The tokens of a list of ports, and the ports of a list of tokens.
 use Rattle.qshared.proofs.Common.{◌≡◌, ℕ, zero, suc, List, [], ◌∷◌, ◌++◌, map, sym, refl, ap, ◌∙◌, subst, some}
-use Rattle.qshared.proofs.Common.{some-injective, some-ne-none, get_elem?, at_map, ThreadSeat, Delivery, IsRow}
+use Rattle.qshared.proofs.Common.{some-injective, some-ne-none, get_elem?, get_or, at_map, ThreadSeat, Delivery, IsRow}
 use Rattle.qshared.proofs.Common.{thread_id, thread_of, completions_in, taken}
 use Rattle.qhandoff.specs.Words as cells
 use Rattle.atomic_table.specs.Seated.{TableId}
+use Rattle.qshared.proofs.Common.{Member}
+use Rattle.qshared.specs.Desks.{AreNewPorts}
+use Rattle.qshared.specs.declared.desk_port.DeskPort.{DeskPort}
 
 module _ {P : Type 0} where
   pub map_same : (xs : List P) → map (λ x. x) xs ≡ xs
@@ -40,3 +43,18 @@ module _ {P : Type 0} where
   pub map_snoc : {A : Type 0} (f : P → A) (xs : List P) (x : P) → map f (xs ++ x ∷ []) ≡ map f xs ++ f x ∷ []
   map_snoc f [] x = refl
   map_snoc f (y ∷ ys) x = ap (λ zs. f y ∷ zs) (map_snoc f ys x)
+
+  pub named_at : (f : P → ℕ) (xs : List P) (k : ℕ) (p : P) → get_elem? xs k ≡ some p → get_or (map f xs) k 0 ≡ f p
+  named_at f [] k p e = absurd (some-ne-none p (sym e))
+  named_at f (x ∷ xs) zero p e = ap f (some-injective x p e)
+  named_at f (x ∷ xs) (suc k) p e = named_at f xs k p e
+
+-- ports that are new by these names are new by equal names
+pub new_ports_as : (roster roster' : List Member) (table table' : TableId) (past past' : ℕ) (lists lists' : List ℕ)
+    (ports : List DeskPort) → roster ≡ roster' → table ≡ table' → past ≡ past' → lists ≡ lists'
+    → AreNewPorts roster table past lists ports → AreNewPorts roster' table' past' lists' ports
+new_ports_as roster roster' table table' past past' lists lists' ports r t p l new =
+    subst (λ ls. AreNewPorts roster' table' past' ls ports) l
+    (subst (λ n. AreNewPorts roster' table' n lists ports) p
+    (subst (λ z. AreNewPorts roster' z past lists ports) t
+    (subst (λ ms. AreNewPorts ms table past lists ports) r new)))

@@ -21,6 +21,7 @@ use crate::traced::Traced;
 use crate::turn::Turn;
 use qbase::errno::Errno;
 use qhandoff::cells::Cells;
+use qkernel::kernel::Kernel;
 use qmodel::call::Call;
 use std::snapshot::Snapshot;
 
@@ -56,6 +57,13 @@ impl<L: Log> Desk<L> {
         ensures { (result.traced ≡ traced) × (result.heard ≡ heard) }
     {
         Desk { traced, heard }
+    }
+
+    /// Returns the kernel as the calls that were made left it, for looks that change nothing.
+    pub fn kernel(&self) -> &Kernel
+        ensures { result.now ≡ self.now.traced.kernel }
+    {
+        self.traced.kernel()
     }
 
     /// Makes a call of the thread that `turn` belongs to. If the call is an event, adds it to the thread's

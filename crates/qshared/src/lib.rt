@@ -19,6 +19,7 @@ mod lock_state;
 pub mod log;
 mod logged_copy;
 pub mod observed_prefix;
+pub mod opened_desk;
 pub mod opener;
 pub mod parts;
 pub mod port;

@@ -1,20 +1,23 @@
 //! The parts of a shared kernel.
 
-ghost use Rattle.std.specs.Prelude.{◌≡◌, ◌≤◌, ◌^◌, ◌⊎◌, ◌<◌, ℕ, [], length, map, IfOk, IfErr};
+ghost use Rattle.std.specs.Prelude.{◌≡◌, ◌≤◌, ◌^◌, ◌⊎◌, ◌<◌, ℕ, [], length, IfOk, IfErr};
 ghost use lib.ListN.{get_elem?};
+ghost use Rattle.qtables.specs.Members.{IsRoster};
 ghost use Rattle.qrules.specs.Facts.{threads_of};
 ghost use Rattle.qkernel_state.specs.Contents.{members_of};
 ghost use Rattle.qkernel.specs.Matching.{MatchesAt};
 ghost use Rattle.qhandoff.specs.Steps.{seated_kernel_view};
 ghost use Rattle.qhandoff.specs.Words.{cells_id, kernel_id, count, took, IsRow};
-ghost use Rattle.qshared.specs.Asking.{asked_in, heard_in};
+ghost use Rattle.qshared.specs.Asking.{heard_in};
 ghost use Rattle.qshared.specs.Delivered.{kernel_view, origin_of};
+ghost use Rattle.qshared.specs.Desks.{AreNewPorts, names_in};
 
-use crate::asking::{KernelCalls, PortCalls, halves};
+use crate::asking::{KernelCalls, halves};
 use crate::delivery::{Delivery, Origin};
+use crate::desk_port::DeskPort;
 use crate::history::{History, Prefix};
+use crate::turn::Turn;
 use qbase::errno::Errno;
-use qbase::ids::ThreadNo;
 use qhandoff::cells::Cells;
 use qhandoff::seats::{KernelSeat, ThreadSeat};
 use qkernel::kernel::Kernel;
@@ -29,59 +32,59 @@ use std::sync::ledger::Blank;
 pub struct Parts {
     pub(crate) cells: Cells<Delivery, Origin>,
     pub(crate) seat: KernelSeat<Delivery>,
-    pub(crate) seats: Vec<ThreadSeat<Delivery>>,
+    // One for each thread, in ascending order of thread number.
+    pub(crate) ports: Vec<DeskPort>,
     pub(crate) blank: Blank,
     pub(crate) kernel: Kernel,
-    pub(crate) threads: Vec<ThreadNo>,
     pub(crate) limit: usize,
-    pub(crate) asked: Vec<PortCalls>,
     pub(crate) heard: Vec<KernelCalls>,
     pub(crate) history: History,
-    pub(crate) seen: Prefix,
     ghost fits: { (kernel_id seat ≡ cells_id cells)
         × (kernel_view seat ≡ seated_kernel_view (count cells) (count cells)) × (blank.parts ≡ count cells) },
-    ghost row: { (length seats.items ≡ count cells) × IsRow (cells_id cells) seats.items
-        × ((k : ℕ) → took (get_elem? seats.items k) ≡ []) },
     ghost matches: { MatchesAt (members_of kernel.threads) kernel [] },
-    ghost threads_are: { (threads.items ≡ threads_of (members_of kernel.threads))
-        × (length threads.items ≡ count cells) },
+    ghost sized: { (length (threads_of (members_of kernel.threads)) ≡ count cells)
+        × (length heard.items ≡ count cells) },
     ghost bounded: { (2 ≤ limit) × (limit ≤ 2 ^ 20) },
-    ghost halves: { (map (λ a. a.name) asked.items ≡ map (λ h. h.name) heard.items)
-        × (length asked.items ≡ count cells) × (length heard.items ≡ count cells) },
     ghost origin: { ((origin_of cells).roster.value ≡ members_of kernel.threads)
         × ((origin_of cells).seen.name ≡ history.name) },
-    ghost unseen: { (history.name ≡ seen.name) × (history.trace ≡ []) × (seen.trace ≡ []) },
-    ghost empty: { ((k : ℕ) → asked_in (get_elem? asked.items k) ≡ [])
-        × ((k : ℕ) → heard_in (get_elem? heard.items k) ≡ []) },
+    ghost unused: { (history.trace ≡ []) × ((k : ℕ) → heard_in (get_elem? heard.items k) ≡ []) },
+    ghost ports_are: { AreNewPorts (members_of kernel.threads) (cells_id cells) history.name
+        (names_in heard.items) ports.items },
 }
 
-/// Returns the thread numbers of these members.
-fn threads_in(alloc: Global, members: &[Member]) -> Result<Vec<ThreadNo>, AllocError>
-    ensures { IfOk result (λ ts. ts.items ≡ threads_of members.now) }
-{
-    let mut threads = Vec::with_capacity(alloc, members.len())?;
-    for member in members {
-        threads.push(member.thread)?;
-    }
-    Ok(threads)
-}
-
-/// Returns `many` empty lists of calls, each in two halves.
-fn lists(alloc: Global, many: usize) -> Result<(Vec<PortCalls>, Vec<KernelCalls>), AllocError>
-    ensures names { IfOk result (λ r. map (λ a. a.name) r.0.items ≡ map (λ h. h.name) r.1.items) }
-    ensures many { IfOk result (λ r. (length r.0.items ≡ many) × (length r.1.items ≡ many)) }
-    ensures empty { IfOk result
-        (λ r. ((k : ℕ) → asked_in (get_elem? r.0.items k) ≡ [])
+/// Returns a port for each member of the roster, and the list of its calls that the kernel keeps.
+fn ports_of(
+    kernel: &Kernel,
+    members: &[Member],
+    seats: Vec<ThreadSeat<Delivery>>,
+    seen: &Prefix,
+    cells: &Cells<Delivery, Origin>,
+) -> Result<(Vec<DeskPort>, Vec<KernelCalls>), AllocError>
+    requires roster { IsRoster members.now × (members_of kernel.now.threads ≡ members.now) }
+    requires sized { length members.now ≡ count cells.now }
+    requires seats { (length seats.items ≡ count cells.now) × IsRow (cells_id cells.now) seats.items
+        × ((k : ℕ) → took (get_elem? seats.items k) ≡ []) }
+    requires seen { seen.now.trace ≡ [] }
+    ensures heard { IfOk result (λ r. (length r.1.items ≡ count cells.now)
         × ((k : ℕ) → heard_in (get_elem? r.1.items k) ≡ [])) }
+    ensures ports { IfOk result (λ r. AreNewPorts members.now (cells_id cells.now) seen.now.name
+        (names_in r.1.items) r.0.items) }
 {
-    let mut asked = Vec::with_capacity(alloc, many)?;
-    let mut heard = Vec::with_capacity(alloc, many)?;
-    for _ in 0..many {
-        let (one, other) = halves();
-        asked.push_reserved(one);
-        heard.push_reserved(other);
+    let alloc = kernel.alloc();
+    let mut ports = Vec::with_capacity(alloc, cells.threads())?;
+    let mut heard = Vec::with_capacity(alloc, cells.threads())?;
+    for seat in seats {
+        let thread = members[seat.thread()].thread;
+        let Some(place) = kernel.seat(thread) else {
+            unreachable!()
+        };
+        let turn = Turn::new(alloc, place)?;
+        let (asked, kept) = halves();
+        let core = DeskPort::new(seat, turn, asked, seen.again());
+        ports.push_reserved(core);
+        heard.push_reserved(kept);
     }
-    Ok((asked, heard))
+    Ok((ports, heard))
 }
 
 /// The most events that a history in memory may have: 1,048,576.
@@ -101,24 +104,21 @@ impl Parts {
         if trace_limit < 2 || trace_limit > TRACE_LIMIT {
             return Err(Errno::Inval);
         }
-        let threads = threads_in(alloc, roster.members())?;
         let (history, seen) = History::begin();
         let origin = Origin::new(roster, &seen);
-        let (cells, seat, seats) = Cells::new(alloc, threads.len(), &origin)?;
+        let (cells, seat, seats) = Cells::new(alloc, roster.members().len(), &origin)?;
         let kernel = Kernel::new(alloc, roster)?;
-        let (asked, heard) = lists(alloc, threads.len())?;
+        let (ports, heard) = ports_of(&kernel, roster.members(), seats, &seen, &cells)?;
+        let blank = Blank::new(cells.threads() as u64);
         Ok(Parts {
             cells,
             seat,
-            seats,
-            blank: Blank::new(threads.len() as u64),
+            ports,
+            blank,
             kernel,
-            threads,
             limit: trace_limit as usize,
-            asked,
             heard,
             history,
-            seen,
         })
     }
 }

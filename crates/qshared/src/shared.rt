@@ -4,16 +4,14 @@ ghost use Rattle.std.specs.Prelude.{◌≡◌, ◌≤◌, ◌++◌, ℕ, [], len
 ghost use Rattle.std.specs.Prelude.{◌==◌, Some, false, not, vec_capacity};
 ghost use mathlib.Core.Option.{some};
 ghost use lib.ListN.{get_elem?};
-ghost use Rattle.qtables.specs.Members.{IsRoster};
-ghost use Rattle.qrules.specs.Facts.{threads_of};
 ghost use Rattle.qrules.specs.Lawful.{IsLawful};
 ghost use Rattle.qrules.specs.Trace.{followed_by};
 ghost use Rattle.qrules.specs.Properties.{HasProperties};
-ghost use Rattle.qkernel_state.specs.Contents.{members_of};
-ghost use Rattle.qhandoff.specs.Words.{cells_id, thread_of, took, IsRow};
+ghost use Rattle.qhandoff.specs.Words.{cells_id, thread_of};
 ghost use Rattle.qshared.specs.Delivered.{origin_of, IsOrigin};
-ghost use Rattle.qshared.specs.Asking.{AreCallsOf, asked_in};
+ghost use Rattle.qshared.specs.Asking.{AreCallsOf};
 ghost use Rattle.qshared.specs.Collected.{collected_by};
+ghost use Rattle.qshared.specs.Desks.{AreNewPorts};
 ghost use Rattle.qshared.specs.Due.{AreDue, AreKnown};
 ghost use Rattle.qshared.specs.Naming.{AreParts, AreAll};
 ghost use Rattle.qshared.specs.Past.{AreSeen, RiseByThread};
@@ -25,24 +23,22 @@ use crate::delivery::{Delivery, Origin};
 use crate::desk::Desk;
 use crate::desk_port::DeskPort;
 use crate::ghost_history::GhostHistory;
-use crate::history::{History, Prefix};
+use crate::history::History;
 use crate::lock_state::LockState;
 use crate::log::Log;
+use crate::opened_desk::OpenedDesk;
 use crate::parts::Parts;
 use crate::port::Port;
 use crate::recorded_history::RecordedHistory;
 use crate::report::{EventCounts, Report};
 use crate::tie::Tie;
 use crate::traced::Traced;
-use crate::turn::Turn;
 use crate::waker::Waker;
 use crossbeam_utils::CachePadded;
 use crossbeam_utils::sync::Parker;
 use qbase::errno::Errno;
-use qbase::ids::ThreadNo;
 use qhandoff::cells::Cells;
 use qhandoff::seats::ThreadSeat;
-use qkernel::kernel::Kernel;
 use qmodel::call::Completion;
 use std::alloc::{AllocError, Global};
 use std::sync::Mutex;
@@ -88,46 +84,26 @@ fn without_places(mut left: Vec<(usize, Delivery)>, mut room: Vec<Completion>) -
     room
 }
 
-/// Makes a port for each token, with its share of the ledger, and the wakers of the ports' threads.
+/// Makes the port of each thread from its side of the desk, with its share of the ledger, and the wakers of
+/// the ports' threads.
 fn ports_for<K: Tie>(
-    kernel: &Kernel,
-    threads: &[ThreadNo],
-    seats: Vec<ThreadSeat<Delivery>>,
-    mut asked: Vec<PortCalls>,
+    alloc: Global,
+    cores: Vec<DeskPort>,
     spare: &mut Share<K>,
-    seen: &Prefix,
 ) -> Result<(Vec<Port<K>>, Vec<Waker>), AllocError>
-    requires roster { IsRoster K.names.roster × (threads.now ≡ threads_of K.names.roster)
-        × (members_of kernel.now.threads ≡ K.names.roster) }
-    requires seats { (length seats.items ≡ length threads.now) × IsRow K.names.cells seats.items
-        × ((k : ℕ) → took (get_elem? seats.items k) ≡ []) }
-    requires asked { (map (λ a. a.name) asked.items ≡ K.names.lists)
-        × (length asked.items ≡ K.names.cells.slots) × ((k : ℕ) → asked_in (get_elem? asked.items k) ≡ []) }
-    requires sized { length threads.now ≡ K.names.cells.slots }
-    requires spare { (spare.old.parts ≡ length seats.items) × (spare.old.amount ≡ 0) }
-    requires seen { (seen.now.name ≡ K.names.history) × (seen.now.trace ≡ []) }
+    requires cores { AreNewPorts K.names.roster K.names.cells K.names.history K.names.lists cores.items }
+    requires spare { (spare.old.parts ≡ length cores.items) × (spare.old.amount ≡ 0) }
     ensures spare { OnOk result ((spare.new.parts ≡ 0) × (spare.new.amount ≡ 0)) }
     ensures ports { IfOk result (λ r. AreAll (λ p. thread_of p.core.seat) K.names.cells.slots r.0.items) }
     ensures new { IfOk result (λ r. (k : ℕ) (p : _) → get_elem? r.0.items k ≡ some p → (p.calls ≡ 0)
         × (p.core.turn.pending ≡ false) × (collected_by p ≡ [])
         × (p.core.asked.calls ≡ []) × (p.core.seen.trace ≡ [])) }
 {
-    let alloc = kernel.alloc();
-    let mut ports = Vec::with_capacity(alloc, seats.len())?;
-    let mut wakers = Vec::with_capacity(alloc, seats.len())?;
-    asked.reverse();
-    for seat in seats {
+    let mut ports = Vec::with_capacity(alloc, cores.len())?;
+    let mut wakers = Vec::with_capacity(alloc, cores.len())?;
+    for core in cores {
         let parker = Parker::new(alloc)?;
         wakers.push(Waker::new(parker.unparker().clone()?))?;
-        let thread = threads[seat.thread()];
-        let Some(own) = asked.pop() else {
-            unreachable!()
-        };
-        let Some(place) = kernel.seat(thread) else {
-            unreachable!()
-        };
-        let turn = Turn::new(alloc, place)?;
-        let core = DeskPort::new(seat, turn, own, seen.again());
         let port = Port::new(core, spare.split_off(1, 0), parker);
         ports.push_reserved(port);
     }
@@ -200,27 +176,16 @@ impl<K: Tie, L: Log> Shared<K, L> {
             × (p.core.turn.pending ≡ false) × (collected_by p ≡ [])
             × (p.core.asked.calls ≡ []) × (p.core.seen.trace ≡ [])) }
     {
-        let Parts {
+        let alloc = parts.kernel.alloc();
+        let room = CloseBuffers::new(alloc, parts.ports.len())?;
+        let OpenedDesk {
+            desk,
             cells,
-            seat,
-            seats,
+            ports: cores,
             blank,
-            kernel,
-            threads,
-            asked,
-            heard,
-            history,
-            seen,
-            ..
-        } = parts;
-        let _made = kernel.made();
-        let alloc = kernel.alloc();
-        let many = seats.len();
-        let room = CloseBuffers::new(alloc, many)?;
+        } = parts.into_desk(log);
         let (book, mut spare) = blank.open::<K>();
-        let (ports, wakers) = ports_for(&kernel, &threads, seats, asked, &mut spare, &seen)?;
-        let traced = Traced::new(kernel, seat, log, history);
-        let desk = Desk::new(traced, heard);
+        let (ports, wakers) = ports_for(alloc, cores, &mut spare)?;
         let locked = LockState::new(desk, book, spare, room);
         let lock = CachePadded::new(Mutex::new(Box::new(alloc, locked)?));
         let shared = Shared {
@@ -352,7 +317,7 @@ impl<K: Tie> Shared<K, RecordedHistory<K>> {
     {
         let alloc = parts.kernel.alloc();
         let _made = parts.kernel.made();
-        let log = RecordedHistory::new(alloc, parts.threads.len(), parts.limit)?;
+        let log = RecordedHistory::new(alloc, parts.ports.len(), parts.limit)?;
         Ok(Shared::with_log(parts, log)?)
     }
 

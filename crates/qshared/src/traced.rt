@@ -130,6 +130,13 @@ impl<L: Log> Traced<L> {
         self.kernel.made()
     }
 
+    /// Returns the kernel, for looks that change nothing.
+    pub fn kernel(&self) -> &Kernel
+        ensures { result.now ≡ self.now.kernel }
+    {
+        &self.kernel
+    }
+
     /// Makes a call of the thread that `turn` belongs to, for `Desk::call`. Opens the thread's cell, makes
     /// the call, and puts every other thread's completion into its cell. If the call completed, closes the
     /// thread's cell and leaves the completion in its place in `turn`. Afterwards `seen` is the whole

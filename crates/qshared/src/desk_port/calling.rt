@@ -8,18 +8,34 @@ ghost use Rattle.qshared.specs.Desks.{AreCellsOf, IsPortOf, IsSamePort, names_in
 ghost use Rattle.qshared.specs.Performing.{called_by};
 ghost use Rattle.qshared.specs.UnderLock.{IsSameKernel, roster_of};
 
-use crate::called::pends;
+use crate::called::{Called, called_by as take_outcome, pends};
 use crate::delivery::{Delivery, Origin};
 use crate::desk::Desk;
 use crate::desk_port::DeskPort;
 use crate::log::Log;
 use crate::opener::Opener;
-use crate::turn::clear;
+use crate::turn::{clear, copy_into, free_lent, keep_lent};
 use qbase::errno::Errno;
 use qhandoff::cells::Cells;
 use qmodel::call::Call;
 
 impl DeskPort {
+    /// Prepares the next call, without the lock: frees the last call, and copies this one for the log `L`, if
+    /// the log keeps copies.
+    #[inline(always)]
+    pub fn prepare<L: Log>(&mut self, call: &Call)
+        ensures copies { IfSome self.new.turn.copies (λ c. c ≡ call.now) }
+        ensures taken { collected_at self.new ≡ collected_at self.old }
+        ensures same { IsSamePort self.new self.old × (self.new.seat ≡ self.old.seat)
+            × (self.new.turn.pending ≡ self.old.turn.pending) × (self.new.turn.own ≡ self.old.turn.own)
+            × (self.new.asked ≡ self.old.asked) × (self.new.seen ≡ self.old.seen)
+            × (self.new.last ≡ self.old.last) }
+    {
+        self.turn.woken = 0;
+        free_lent(&mut self.turn.lent);
+        copy_into::<L>(self.turn.alloc, call, &mut self.turn.copies);
+    }
+
     /// Makes a call of the thread at a desk. The call is refused with `Down` after a Shutdown. Otherwise it
     /// is refused with `Busy` if the completion of a blocked call isn't collected yet, or if the opener gives
     /// up. Otherwise the log may refuse it. A refused call stays in its place. If the call completes in its
@@ -66,5 +82,29 @@ impl DeskPort {
         self.last = self.seen.again();
         self.turn.pending = pends(&made, &self.turn.own, self.turn.pending);
         made
+    }
+    /// Returns the outcome of the call that was made last. Takes its completion, if it came in the call's own
+    /// event, and otherwise the refused call out of its place. Keeps the call of an event, if its bytes were
+    /// only lent to the kernel.
+    #[inline(always)]
+    pub fn finish_call(&mut self, made: Result<(), Errno>, call: Call) -> Called
+        ensures outcome { result ≡ called_by made self.old.turn.own call }
+        ensures taken { collected_at self.new ≡ collected_at self.old }
+        ensures same { IsSamePort self.new self.old × (self.new.seat ≡ self.old.seat)
+            × (self.new.turn.pending ≡ self.old.turn.pending) × (self.new.asked ≡ self.old.asked)
+            × (self.new.seen ≡ self.old.seen) × (self.new.last ≡ self.old.last) }
+    {
+        let mut call = call;
+        let called = take_outcome(made, &mut self.turn.own, &mut call);
+        keep_lent(&mut self.turn.lent, call);
+        called
+    }
+
+    /// Returns the bit of each other thread whose cell was filled by the calls since `prepare`. The bit of a
+    /// cell is its index.
+    pub fn woken(&self) -> u64
+        ensures { result ≡ self.now.turn.woken }
+    {
+        self.turn.woken
     }
 }

@@ -61,6 +61,15 @@ fn take(
 }
 
 impl DeskPort {
+    /// Returns whether there is a completion that `poll` would take. Takes no lock and no memory, and never
+    /// waits.
+    #[inline(always)]
+    pub fn has_completion(&self, cells: &Cells<Delivery, Origin>) -> bool
+        requires cells { IsThreadOf cells.now self.now.seat }
+    {
+        self.seat.has_completion(cells)
+    }
+
     /// Takes the completion that was put for the thread, if there is one. Takes no lock and no memory, and
     /// never waits.
     #[inline(always)]

@@ -12,7 +12,7 @@ ghost use Rattle.qshared.specs.Counting.{is_call, gives, pends, OnBusy};
 ghost use Rattle.qshared.specs.TwoCalls.{AnsweredBoth, calls_in, asked_by, gives_both, pends_both};
 ghost use Rattle.qshared.specs.TwoCalls.{OnBusyInBoth};
 
-use crate::called::{Called, CalledPair, called_by, events, is_ok};
+use crate::called::{Called, CalledPair, events, is_ok};
 use crate::delivery::{Delivery, Origin};
 use crate::lock_state::LockState;
 use crate::log::Log;
@@ -21,7 +21,7 @@ use crate::port::Port;
 use crate::shared::Shared;
 use crate::spinning;
 use crate::tie::Tie;
-use crate::turn::{clear, copy_into, free_lent, keep_lent};
+use crate::turn::clear;
 use qbase::bytes::Bytes;
 use qbase::errno::Errno;
 use qhandoff::cells::Cells;
@@ -66,18 +66,14 @@ impl<K: Tie> Port<K> {
             × (thread_of self.new.core.seat ≡ thread_of self.old.core.seat) }
     {
         let mut call = call;
-        self.core.turn.woken = 0;
-        free_lent(&mut self.core.turn.lent);
-        copy_into::<L>(self.core.turn.alloc, &call, &mut self.core.turn.copies);
+        self.core.prepare::<L>(&call);
         let made = {
             let mut guard = spinning::lock(&*shared.lock, shared.looks, rt);
             self.make(&shared.cells, rt, &mut **guard, &mut call)
         };
         shared.wake(self.core.turn.woken);
         clear(&mut self.core.turn.copies);
-        let called = called_by(made, &mut self.core.turn.own, &mut call);
-        keep_lent(&mut self.core.turn.lent, call);
-        called
+        self.core.finish_call(made, call)
     }
 
     /// Makes two calls without freeing the lock between them, so that no other thread's call comes between.
@@ -106,9 +102,7 @@ impl<K: Tie> Port<K> {
         ensures same { (self.new.core.thread ≡ self.old.core.thread)
             × (thread_of self.new.core.seat ≡ thread_of self.old.core.seat) }
     {
-        self.core.turn.woken = 0;
-        free_lent(&mut self.core.turn.lent);
-        copy_into::<L>(self.core.turn.alloc, &first, &mut self.core.turn.copies);
+        self.core.prepare::<L>(&first);
         let mut copies = L::copies(self.core.turn.alloc, &second);
         let called = {
             let mut guard = spinning::lock(&*shared.lock, shared.looks, rt);
@@ -164,9 +158,7 @@ impl<K: Tie> Port<K> {
     {
         let mut call = call;
         let made = self.make(cells, rt, locked, &mut call);
-        let called = called_by(made, &mut self.core.turn.own, &mut call);
-        keep_lent(&mut self.core.turn.lent, call);
-        called
+        self.core.finish_call(made, call)
     }
 
     /// Makes a call of the thread under the lock, which the caller holds. A refused call stays in its place.
