@@ -56,7 +56,10 @@ pub fn open(alloc: Global, threads: &[RosterThread]) -> Result<Opened, Errno>
 {
     let roster = roster_of(alloc, threads)?;
     let OpenedDesk {
-        desk, cells, ports, ..
+        desk,
+        cells,
+        ports,
+        ..
     } = Parts::new(alloc, &roster, TRACE_LIMIT)?.into_desk_without_history();
     let Ok(cells) = Arc::new(alloc, cells) else {
         return Err(Errno::NoMemory);

@@ -55,13 +55,12 @@ returns-clause-ports g c =
     (c.into_iter-core-iterator.ensures.into_iter_gives.1 ∙ c.args.cores.ok.0)) c.loop-core.yielded
     c.loop-core.core-iterator c.loop-core.yielded_by c.next.result c.next.new.self c.in-None.is c.next.ensures.steps in
     let v = c.loop-core.invariant in
-    let all = v.cores ∙ sym (map_same c.loop-core.yielded) ∙ t.0 in
-    (
+    let all = v.cores ∙ sym (map_same c.loop-core.yielded) ∙ t.0 in (
       v.room.0 ∙ t.1 ∙ c.requires.cores.0,
       λ k p at. let new =
-      c.requires.cores.1 k p.core
-      (ap (λ ys. get_elem? ys k) (sym all) ∙ at_map (λ q. q.core) c.loop-core.ports.items k p at) in
-      new.cell,
+          c.requires.cores.1 k p.core
+          (ap (λ ys. get_elem? ys k) (sym all) ∙ at_map (λ q. q.core) c.loop-core.ports.items k p at) in
+          new.cell,
     )
 
 pub returns-clause-new : goal.returns-clause-new
@@ -75,9 +74,8 @@ returns-clause-new g c =
     let v = c.loop-core.invariant in
     let all = v.cores ∙ sym (map_same c.loop-core.yielded) ∙ t.0 in
     λ k p at. let new =
-      c.requires.cores.1 k p.core
-      (ap (λ ys. get_elem? ys k) (sym all) ∙ at_map (λ q. q.core) c.loop-core.ports.items k p at) in
-    (
+    c.requires.cores.1 k p.core
+    (ap (λ ys. get_elem? ys k) (sym all) ∙ at_map (λ q. q.core) c.loop-core.ports.items k p at) in (
       v.calls k p at,
       new.idle,
       ap (λ q. collected q p.core.thread (taken p.core.seat)) new.unseen.1,
