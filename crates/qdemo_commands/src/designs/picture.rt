@@ -87,7 +87,7 @@ fn drawn_fault(source: DesignSource<'_>, found: &Counterexample, view: &ChartVie
     let mut log = StateLog { alloc, states };
     let replay = Replay::of_found(source, found, &mut log)?;
     let roles = replay.roles(found.violation)?;
-    let tones = roles.iter().map(|role| tone_of(*role)).collect(alloc)?;
+    let tones: Vec<Tone> = roles.iter().map(|role| tone_of(*role)).collect(alloc)?;
     let run = PastRun {
         trace: &replay.trace,
         states: log.states.as_slice(),
