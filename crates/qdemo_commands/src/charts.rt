@@ -2,7 +2,7 @@
 //! file or on standard output.
 
 use crate::command::ChartRun;
-use crate::completion::{ExitResult, end_failed, end_unread, end_with, print_text, text_of};
+use crate::completion::{ExitResult, end_failed, end_with, put_text, text_of};
 use crate::designs::is_design;
 use crate::designs::picture::{Drawing, design_drawing};
 use crate::kinds::{OtherKind, TextKind};
@@ -81,13 +81,7 @@ pub fn run_chart<R: Files + Input + Print + Eprint + AllocGlobal>(
         _ => plain_drawing(rt, source, &view)?,
     };
     let drawn = drawn.map_err(|fault| end_with(rt, format_args!("{fault}"), fault.status()))?;
-    match run.output.as_deref() {
-        None => print_text(rt, drawn.as_str())?,
-        Some(name) => {
-            let written = fs::write(rt, name, drawn.as_str());
-            written.map_err(|error| end_unread(rt, name, error))?;
-        }
-    }
+    put_text(rt, run.output.as_deref(), drawn.as_str())?;
     Ok(ExitCode::SUCCESS)
 }
 
@@ -175,7 +169,7 @@ fn named_drawing<R: Eprint + AllocGlobal>(
 }
 
 /// Returns whether two paths lead to the same existing file.
-fn is_same<R: Files + AllocGlobal>(rt: &R, one: &str, other: &str) -> bool {
+pub fn is_same<R: Files + AllocGlobal>(rt: &R, one: &str, other: &str) -> bool {
     match (fs::canonicalize(rt, one), fs::canonicalize(rt, other)) {
         (Ok(one), Ok(other)) => one.as_path().as_str() == other.as_path().as_str(),
         _ => false,

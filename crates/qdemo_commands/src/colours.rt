@@ -23,6 +23,8 @@ pub enum Mood {
     Good,
     Bad,
     Unsure,
+    /// Of little weight: grey.
+    Faint,
 }
 
 /// Returns the escape sequences before and after a text in its colour. They are empty if the output has no
@@ -33,5 +35,6 @@ pub fn marks(mood: Mood, has_colours: bool) -> (&'static str, &'static str) {
         Mood::Good => ("\x1b[32m", "\x1b[0m"),
         Mood::Bad => ("\x1b[31m", "\x1b[0m"),
         Mood::Unsure => ("\x1b[33m", "\x1b[0m"),
+        Mood::Faint => ("\x1b[90m", "\x1b[0m"),
     }
 }

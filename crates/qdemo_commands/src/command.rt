@@ -82,6 +82,10 @@ pub struct ExploreRun {
     pub file: Option<String>,
     /// Whether the rows of the design are printed, and nothing is explored.
     pub listing: bool,
+    /// Whether the output is the graph of states.
+    pub dot: bool,
+    /// The graph's file; `None` for standard output.
+    pub output: Option<String>,
     /// Whether only the run that shows a fault is printed, as a script.
     pub script: bool,
     /// Whether that script has names.
@@ -200,6 +204,8 @@ fn explore_of(alloc: Global, matches: &ArgMatches<'_>, screen: Screen) -> Run<Ex
     Ok(ExploreRun {
         file: file_of(alloc, matches.get_str("file"))?,
         listing: matches.get_flag("listing"),
+        dot: matches.get_flag("dot"),
+        output: file_of(alloc, matches.get_str("output"))?,
         no_symmetry: matches.get_flag("no-symmetry"),
         script: matches.get_flag("script"),
         names: matches.get_flag("names") || screen.output,

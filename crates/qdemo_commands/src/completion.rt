@@ -75,3 +75,15 @@ pub fn print_text<R: Print + Eprint>(rt: &R, text: &str) -> Result<(), ExitCode>
     let printed = io::writer(rt).write_all(text.as_bytes());
     printed.map_err(|error| end_unwritten(rt, error))
 }
+
+/// Writes a text into a file, or prints it if there is none; the program ends if it can't be written.
+pub fn put_text<R: Files + Print + Eprint + AllocGlobal>(
+    rt: &R,
+    output: Option<&str>,
+    text: &str,
+) -> Result<(), ExitCode> {
+    match output {
+        None => print_text(rt, text),
+        Some(name) => fs::write(rt, name, text).map_err(|error| end_unread(rt, name, error)),
+    }
+}

@@ -1,11 +1,14 @@
 //! Unproved: words and layout. Explores the design of a file: every interleaving of its threads.
 
+mod graph;
 pub mod picture;
 mod search_end;
 
+use crate::charts::is_same;
 use crate::colours::{Mood, marks};
 use crate::command::ExploreRun;
-use crate::completion::{end_failed, end_unwritten, end_with, print_text, text_of};
+use crate::completion::{ExitResult, end_failed, end_unwritten, end_with, print_text, text_of};
+use crate::designs::graph::put_graph;
 use crate::json::faults::{faults_in, list_of};
 use crate::json::push_line;
 use crate::json::verdicts::verdict_of;
@@ -13,6 +16,7 @@ use crate::kinds::{OtherKind, TextKind};
 use crate::remarks::FaultSource;
 use qexplore::explore::Observer;
 use qexplore_design::design_fault::DesignFault;
+use qexplore_design::verdict::script::ScriptStyle;
 use qexplore_design::verdict::words::{DesignSource, VerdictWords};
 use qexplore_design::{DesignReading, read};
 use qexplore_listing::listing::listing;
@@ -71,7 +75,7 @@ pub fn words_of(alloc: Global, file: &str, text: &[u8]) -> Result<Reported, Allo
         ..ExploreRun::default()
     };
     let ended = search(&run, source, &mut Nobody)?;
-    Ok(Ok(ended.words(source, false)?.text()?))
+    Ok(Ok(ended.words(source, ScriptStyle::plain(false))?.text()?))
 }
 
 /// Returns whether a file has a design, judged by its name.
@@ -116,7 +120,8 @@ fn print_listing<R: Print + Eprint + AllocGlobal>(
 pub fn run_explore<R: Files + Input + Print + Eprint + AllocGlobal>(
     rt: &R,
     run: &ExploreRun,
-) -> Result<ExitCode, ExitCode> {
+) -> ExitResult {
+    refuse_over_design(rt, run)?;
     let text = text_of(rt, run.file.as_deref())?;
     let text = text.as_slice();
     let file = run.file.as_deref().unwrap_or("-");
@@ -140,6 +145,23 @@ pub fn run_explore<R: Files + Input + Print + Eprint + AllocGlobal>(
         design: &design,
     };
     explore_source(rt, run, source)
+}
+
+/// Ends the program if the graph of states would be written over its design.
+fn refuse_over_design<R: Files + Eprint + AllocGlobal>(
+    rt: &R,
+    run: &ExploreRun,
+) -> Result<(), ExitCode> {
+    if let (Some(file), Some(output)) = (run.file.as_deref(), run.output.as_deref())
+        && is_same(rt, file, output)
+    {
+        return Err(end_with(
+            rt,
+            format_args!("{output}: the graph would be written over its design"),
+            2,
+        ));
+    }
+    Ok(())
 }
 
 /// Prints the verdict on a faulty design, if JSON is requested.
@@ -176,14 +198,18 @@ fn line_of(alloc: Global, value: &Value) -> Result<String, AllocError> {
     Ok(line)
 }
 
-/// Prints a design's listing, or explores the design and prints the output of the search.
-fn explore_source<R: Print + Eprint + AllocGlobal>(
+/// Prints a design's listing, writes the graph of its states, or explores it and prints the output of the
+/// search.
+fn explore_source<R: Files + Print + Eprint + AllocGlobal>(
     rt: &R,
     run: &ExploreRun,
     source: DesignSource<'_>,
-) -> Result<ExitCode, ExitCode> {
+) -> ExitResult {
     if run.listing {
         return print_listing(rt, source.design);
+    }
+    if run.dot {
+        return put_graph(rt, run, source);
     }
     let text = source.text;
     if run.screen.errors {
@@ -217,6 +243,16 @@ fn tell_odd_buffers<R: Eprint + AllocGlobal>(
     Ok(())
 }
 
+/// Returns the style of the run that shows a fault.
+fn style_of(run: &ExploreRun) -> ScriptStyle {
+    let has_colours = run.screen.colours.output && !run.script;
+    ScriptStyle {
+        in_names: run.names,
+        faulty: marks(Mood::Bad, has_colours),
+        harmless: marks(Mood::Faint, has_colours),
+    }
+}
+
 /// Makes the requested search, and returns its output and the exit status.
 fn told_of<R: Eprint + AllocGlobal>(
     rt: &R,
@@ -233,7 +269,7 @@ fn told_of<R: Eprint + AllocGlobal>(
     };
     let told = match text {
         Some(text) => SearchOutput::Text(text),
-        None => SearchOutput::Words(ended.words(source, run.names)?),
+        None => SearchOutput::Words(ended.words(source, style_of(run))?),
     };
     Ok((told, ended.status()))
 }

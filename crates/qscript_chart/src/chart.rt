@@ -1,6 +1,6 @@
 //! The chart of a run.
 
-use crate::row::ChartRow;
+use crate::row::{ChartRow, Tone};
 use qbase::ids::ThreadNo;
 use qkernel::open_call::Blocked;
 use qscript_explain::waiting::{Deadlock, Wait};
@@ -26,6 +26,8 @@ pub struct Chart {
     pub waits: Vec<Wait>,
     /// The deadlocks among these threads.
     pub deadlocks: Vec<Deadlock>,
+    /// How the calls are drawn, from call 1 on. It is empty if all are drawn as usual.
+    pub tones: Vec<Tone>,
 }
 
 impl Chart {
@@ -34,6 +36,12 @@ impl Chart {
         let mut lifelines = self.lifelines.iter();
         let place = lifelines.position(|member| member.thread == thread);
         place.unwrap_or(0)
+    }
+
+    /// Returns how the call with this number is drawn.
+    pub fn tone(&self, number: u64) -> Tone {
+        let tone = self.tones.get(number.saturating_sub(1) as usize);
+        tone.copied().unwrap_or(Tone::Usual)
     }
 
     /// Returns the length in bytes of the longest words beside a lifeline.

@@ -8,7 +8,7 @@ ghost use Rattle.qscript_chart.specs.View.{drawn_count};
 
 use crate::chart::Chart;
 use crate::fault::ChartFault;
-use crate::row::ChartRow;
+use crate::row::{ChartRow, Tone};
 pub use crate::run::ThreadStates;
 use crate::run::{rows_of, rows_of_trace};
 use crate::svg::svg_of;
@@ -37,6 +37,8 @@ pub struct PastRun<'a> {
     pub trace: &'a Trace,
     pub states: &'a [ThreadStates],
     pub kernel: &'a Kernel,
+    /// How each of its calls is drawn.
+    pub tones: &'a [Tone],
 }
 
 /// Runs the script in a text on a new kernel, and returns the drawing of the run. Fails if the script is
@@ -75,6 +77,7 @@ pub fn drawing_of_run(
         trace,
         states,
         kernel,
+        tones,
     } = run;
     if view.span(trace.len()) > MOST_CALLS {
         return Err(ChartFault::TooManyCalls(trace.len()));
@@ -84,7 +87,8 @@ pub fn drawing_of_run(
     let members = threads.map(|thread| thread.member).collect(alloc)?;
     let history = CallHistory::of(alloc, trace)?;
     let rows = rows_of_trace(names, trace, states, view.bytes)?;
-    let whole = chart_with(alloc, kernel, &history, members, rows)?;
+    let mut whole = chart_with(alloc, kernel, &history, members, rows)?;
+    whole.tones.extend_from_slice(tones)?;
     Ok(drawn_part(names, whole, view)?)
 }
 
@@ -146,6 +150,7 @@ fn chart_with(
     let deadlocks = deadlocks(alloc, kernel, waits.as_slice(), &[])?;
     let lifelines = by_process(members)?;
     let blocked = Vec::new(alloc);
+    let tones = Vec::new(alloc);
     Ok(Chart {
         lifelines,
         rows,
@@ -153,6 +158,7 @@ fn chart_with(
         blocked,
         waits,
         deadlocks,
+        tones,
     })
 }
 

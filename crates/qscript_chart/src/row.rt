@@ -15,6 +15,16 @@ pub struct CancelledCall {
     pub errno: Errno,
 }
 
+/// How a call is drawn.
+#[derive(Clone, Copy, PartialEq, Eq)]
+pub enum Tone {
+    Usual,
+    /// In red: a fault shows in it.
+    Faulty,
+    /// In grey: it doesn't matter to the fault.
+    Harmless,
+}
+
 /// A call and its effects.
 pub struct ChartRow {
     /// The number of the call.

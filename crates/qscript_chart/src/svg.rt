@@ -7,9 +7,9 @@ use crate::arrow::{Arrow, ArrowKind};
 use crate::chart::{Chart, Drawn, head};
 use crate::label::{cut_words, priority_words};
 use crate::plan::{Side, is_sent, leaves_at, words_side};
-use crate::row::ChartRow;
+use crate::row::{ChartRow, Tone};
 use canvas::{BAR_HALF, LINE, SvgCanvas};
-use fixed::{LEGEND, START};
+use fixed::{LEGEND, START, TONES, TONES_LEGEND};
 use qbase::ids::ThreadNo;
 use qbase::state::ThreadState;
 use qscript_explain::waiting::Wait;
@@ -37,19 +37,37 @@ impl SvgCanvas<'_> {
             "<svg xmlns=\"http://www.w3.org/2000/svg\" width=\"{width}\" height=\"{height}\" \
              viewBox=\"0 0 {width} {height}\" role=\"img\">\n{START}"
         )?;
+        let (styles, more) = match self.chart.tones.is_empty() {
+            true => ("", ""),
+            false => (TONES, TONES_LEGEND),
+        };
+        out.push_str(styles)?;
         self.push_processes(out)?;
         self.push_guides(out)?;
         self.push_lifelines(out)?;
         for row in &self.chart.rows {
+            let end = self.begin_tone(out, row.number)?;
             self.push_row(out, row)?;
+            out.push_str(end)?;
         }
         self.push_pending(out)?;
         self.push_deadlocks(out)?;
         let y = self.legend();
         write!(
             out,
-            "<g transform=\"translate(40,{y})\">\n{LEGEND}</g>\n</svg>\n"
+            "<g transform=\"translate(40,{y})\">\n{LEGEND}{more}</g>\n</svg>\n"
         )
+    }
+
+    /// Begins the tone of the call with this number, and returns the text that ends the tone.
+    fn begin_tone(&self, out: &mut String, number: u64) -> Result<&'static str, AllocError> {
+        let class = match self.chart.tone(number) {
+            Tone::Usual => return Ok(""),
+            Tone::Faulty => "faulty",
+            Tone::Harmless => "harmless",
+        };
+        write!(out, "<g class=\"{class}\">\n")?;
+        Ok("</g>\n")
     }
 
     /// Adds a background for the threads of each process.
@@ -170,7 +188,9 @@ impl SvgCanvas<'_> {
         for wait in &self.chart.waits {
             let is_drawn = self.chart.rows.iter().any(|row| row.number == wait.message);
             if !wait.is_held && is_drawn && wait.thread != wait.on {
+                let end = self.begin_tone(out, wait.message)?;
                 self.push_short_arrow(out, wait)?;
+                out.push_str(end)?;
             }
         }
         Ok(())

@@ -6,7 +6,7 @@ use crate::arrow::{Arrow, ArrowKind};
 use crate::chart::{Chart, Drawn, head};
 use crate::label::{cut_words, priority_words};
 use crate::plan::is_sent;
-use crate::row::ChartRow;
+use crate::row::{ChartRow, Tone};
 use line::TextLine;
 use qbase::ids::ThreadNo;
 use qbase::state::ThreadState;
@@ -27,6 +27,9 @@ S  SEND-blocked     ====>  reply
 R  RECEIVE-blocked  ....>  pulse
 P  REPLY-blocked    o      sent or made before
 ";
+
+/// A further line of the legend, for a chart with marked calls.
+const TONES: &str = "!  the fault shows  ~      the fault doesn't depend on this call\n";
 
 /// A chart, and the distance between its lifelines.
 #[derive(Drop)]
@@ -62,7 +65,11 @@ impl Page<'_> {
         for deadlock in &self.chart.deadlocks {
             write!(out, "{}\n", deadlock.words(self.names)?)?;
         }
-        out.push_str(LEGEND)
+        out.push_str(LEGEND)?;
+        if self.chart.tones.is_empty() {
+            return Ok(());
+        }
+        out.push_str(TONES)
     }
 
     /// Returns the place of words beside a thread's lifeline.
@@ -111,9 +118,10 @@ impl Page<'_> {
         self.push_changes(out, row)
     }
 
-    /// Writes the first line of a row: its number, its call, and the calls that it cancelled.
+    /// Writes the first line of a row: its number and its tone, its call, and the calls that it cancelled.
     fn put_row(&self, line: &mut TextLine, row: &ChartRow) -> Drawn {
-        line.put_made(0, format!(in self.names.alloc; "{:>4}", row.number)?)?;
+        let sign = tone_sign(self.chart.tone(row.number));
+        line.put_made(0, format!(in self.names.alloc; "{:>4}{sign}", row.number)?)?;
         match row.arrows.first() {
             Some(arrow) if is_sent(row, arrow) => {
                 self.put_arrow(line, arrow, row.words.as_str(), false)?;
@@ -212,6 +220,15 @@ fn state_sign(state: ThreadState) -> &'static str {
         ThreadState::SendBlocked(_) => "S",
         ThreadState::ReceiveBlocked(_) => "R",
         ThreadState::ReplyBlocked(_) => "P",
+    }
+}
+
+/// Returns the sign after the number of a call.
+fn tone_sign(tone: Tone) -> &'static str {
+    match tone {
+        Tone::Usual => "",
+        Tone::Faulty => "!",
+        Tone::Harmless => "~",
     }
 }
 

@@ -182,6 +182,8 @@ fn explore_command<'a>(alloc: Global) -> Build<'a> {
     let help = "The design's file; standard input if missing or -";
     let script = "Print only the run that shows a violation, as a script";
     let listing = "Print the design as rows of JSON, and explore nothing";
+    let dot = "Write the graph of the states for Graphviz, of at most 1,000 states";
+    let output = "The graph's file; standard output if missing or -";
     let symmetry = "Distinguish equal copies: no symmetry reduction";
     let flags = [
         ("script", script, "json"),
@@ -191,6 +193,11 @@ fn explore_command<'a>(alloc: Global) -> Build<'a> {
             "listing",
             listing,
             "script names json no-symmetry most random",
+        ),
+        (
+            "dot",
+            dot,
+            "script names json listing no-symmetry most random",
         ),
         ("no-symmetry", symmetry, "random"),
     ];
@@ -206,7 +213,11 @@ fn explore_command<'a>(alloc: Global) -> Build<'a> {
     let seed = number(alloc, "seed", "S", any, seed)
         .default_value("1")
         .requires_arg("random")?;
+    let output = option(alloc, "output", "FILE", output)
+        .short('o')
+        .requires_arg("dot")?;
     with_flags(alloc, command, &flags)?
+        .arg(output)?
         .arg(most)?
         .arg(number(alloc, "random", "N", count, random))?
         .arg(seed)

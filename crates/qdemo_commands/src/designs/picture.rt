@@ -9,13 +9,17 @@ use crate::remarks::FaultSource;
 use qexplore::replay::KernelObserver;
 use qexplore::violation::Counterexample;
 use qexplore_design::verdict::replay::Replay;
+use qexplore_design::verdict::roles::CallRole;
+use qexplore_design::verdict::script::ScriptStyle;
 use qexplore_design::verdict::words::DesignSource;
 use qexplore_design::{DesignReading, read};
 use qexplore_programs::design::Design;
 use qkernel::kernel::Kernel;
 use qscript_chart::drawing::{PastRun, ThreadStates, drawing_of_run};
 use qscript_chart::fault::ChartFault;
+use qscript_chart::row::Tone;
 use qscript_chart::view::ChartView;
+use qscript_names::NamedReading;
 use qscript_names::context::Context;
 use qscript_names::scope::Scope;
 use std::alloc::{AllocError, Global};
@@ -75,29 +79,65 @@ fn design_of<R: Eprint + AllocGlobal>(rt: &R, source: FaultSource<'_>) -> Result
     }
 }
 
-/// Draws the run that shows a fault.
+/// Draws the run that shows a fault, with the names of its script. The calls in which the fault shows are
+/// red, and the calls that don't matter to it grey.
 fn drawn_fault(source: DesignSource<'_>, found: &Counterexample, view: &ChartView) -> Drawing {
     let alloc = source.alloc;
     let states = Vec::new(alloc);
     let mut log = StateLog { alloc, states };
     let replay = Replay::of_found(source, found, &mut log)?;
+    let roles = replay.roles(found.violation)?;
+    let tones: Vec<Tone> = roles.iter().map(|role| tone_of(*role)).collect(alloc)?;
     let run = PastRun {
         trace: &replay.trace,
         states: log.states.as_slice(),
         kernel: replay.state.kernel(),
+        tones: tones.as_slice(),
     };
-    let scope = Scope::new(alloc);
-    drawing_of_run(Context::plain(alloc, &scope), run, view)
+    let script = replay.script_with_names()?;
+    match qscript_names::read(alloc, script.as_bytes())? {
+        NamedReading::Good(named) => drawing_of_run(named.check.context(), run, view),
+        NamedReading::Faulty(_) => {
+            let scope = Scope::new(alloc);
+            drawing_of_run(Context::plain(alloc, &scope), run, view)
+        }
+    }
 }
 
-/// Prints the verdict on a design without a fault, and ends the program.
+/// Returns how a call with this role is drawn.
+fn tone_of(role: CallRole) -> Tone {
+    match role {
+        CallRole::Faulty => Tone::Faulty,
+        CallRole::Cause => Tone::Usual,
+        CallRole::Harmless => Tone::Harmless,
+    }
+}
+
+/// Prints the verdict on a design without a fault and what to do instead, and ends the program.
 fn end_without<R: Eprint + AllocGlobal>(
     rt: &R,
     source: DesignSource<'_>,
     ended: &SearchEnd,
 ) -> ExitCode {
-    match ended.words(source, false) {
-        Ok(words) => end_with(rt, format_args!("no fault to draw: {}", words.headline), 1),
-        Err(_) => end_failed(rt, "out of memory"),
+    let Ok(words) = ended.words(source, ScriptStyle::plain(false)) else {
+        return end_failed(rt, "out of memory");
+    };
+    let (found, file) = (words.headline, source.file);
+    if ended.status() == 0 {
+        return end_with(
+            rt,
+            format_args!(
+                "no fault to draw: {found}; 'qdemo explore --dot' writes the graph of its states"
+            ),
+            1,
+        );
     }
+    end_with(
+        rt,
+        format_args!(
+            "no fault to draw: {found}: 'qdemo explore --most N --script --names {file} | \
+             qdemo chart --names-in'"
+        ),
+        1,
+    )
 }

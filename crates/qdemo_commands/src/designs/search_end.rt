@@ -6,6 +6,7 @@ use qexplore::explore::{Observer, explore};
 use qexplore::random::try_some;
 use qexplore::verdict::Verdict;
 use qexplore::violation::Counterexample;
+use qexplore_design::verdict::script::ScriptStyle;
 use qexplore_design::verdict::words::{DesignSource, VerdictWords, found_script};
 use serde_json::Value;
 use std::alloc::AllocError;
@@ -34,19 +35,19 @@ impl SearchEnd {
         }
     }
 
-    /// Returns the outcome in words. The run that shows a violation has names if `in_names` is set.
+    /// Returns the outcome in words. The run that shows a violation has this style.
     pub fn words(
         &self,
         source: DesignSource<'_>,
-        in_names: bool,
+        style: ScriptStyle,
     ) -> Result<VerdictWords, AllocError> {
         match self {
             SearchEnd::Searched(Verdict::Found(found)) => {
-                source.found_words(found, "a shortest run", in_names)
+                source.found_words(found, "a shortest run", style)
             }
             SearchEnd::Searched(Verdict::Nothing(summary)) => source.nothing_words(summary),
             SearchEnd::Searched(Verdict::GaveUp(tally)) => source.gave_up_words(*tally),
-            SearchEnd::RandomFound(found) => source.found_words(found, "a run", in_names),
+            SearchEnd::RandomFound(found) => source.found_words(found, "a run", style),
             SearchEnd::RandomNothing { count, seed } => source.chance_words(*count, *seed),
         }
     }

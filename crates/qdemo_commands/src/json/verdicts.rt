@@ -11,6 +11,7 @@ use qexplore::verdict::Summary;
 use qexplore::violation::Counterexample;
 use qexplore_design::verdict::chosen_names::ScriptNames;
 use qexplore_design::verdict::replay::{DesignSource, Replay};
+use qexplore_design::verdict::roles::CallRole;
 use qexplore_design::verdict::violation::loop_calls;
 use serde_json::Value;
 use std::alloc::{AllocError, Global};
@@ -121,7 +122,25 @@ fn add_run(verdict: &mut Record, replay: &Replay<'_>, found: &Counterexample) ->
         names: &names,
         waits: waits.as_slice(),
     };
+    let roles = replay.roles(found.violation)?;
+    let roles = roles.as_slice();
+    verdict.set("faulty", calls_with(replay.alloc, roles, CallRole::Faulty)?)?;
+    verdict.set(
+        "harmless",
+        calls_with(replay.alloc, roles, CallRole::Harmless)?,
+    )?;
     verdict.set("fault", shown.record(found.violation)?)?;
     verdict.set("run", events_of(replay.alloc, &replay.trace, &names)?)?;
     verdict.set("threads", threads_of(replay, waits.as_slice(), &names)?)
+}
+
+/// Returns the numbers of the calls with this role. `roles` has the roles of all calls, from call 1 on.
+fn calls_with(alloc: Global, roles: &[CallRole], role: CallRole) -> Result<Value, AllocError> {
+    let mut numbers: Vec<Value> = Vec::new(alloc);
+    for (at, other) in roles.iter().enumerate() {
+        if *other == role {
+            numbers.push(Value::from((at as u64).saturating_add(1)))?;
+        }
+    }
+    Ok(Value::Array(numbers))
 }

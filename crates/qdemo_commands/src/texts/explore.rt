@@ -92,12 +92,20 @@ fewer of them. A violation is reported with the fewest calls that lead to it:
 
 With --script only the run that shows a violation is printed, as a script.
 Without a violation the output then goes to standard error. With --names, and
-on a terminal, the run is a script with names. With --listing the design is
-printed as rows of JSON, one on each line, and nothing is explored. Designs
-with the same rows are the same. States that differ only in which of equal
-copies did what count as one, unless --no-symmetry is given. docs/DESIGNS.md
-describes designs, and docs/EXPLORE.md has examples. 'qdemo help script'
-describes calls.",
+on a terminal, the run is a script with names. On a terminal the calls in which
+the violation shows are red, and the calls that it doesn't depend on are grey.
+'qdemo chart FILE.design' draws the run.
+
+With --dot the states and the calls that lead from one to another are written
+as a graph, for at most 1,000 states. 'dot -Tsvg' of Graphviz draws it. A state
+with a violation is red, and so is the run that shows the violation. A state in
+which each thread rests has two circles.
+
+With --listing the design is printed as rows of JSON, one on each line, and
+nothing is explored. Designs with the same rows are the same. States that
+differ only in which of equal copies did what count as one, unless --dot or
+--no-symmetry is given. docs/DESIGNS.md describes designs, and docs/EXPLORE.md
+has examples. 'qdemo help script' describes calls.",
     "Example:
   $ qdemo explore designs/clients.design
   designs/clients.design: nothing found in all 2,064,960 interleavings: \
@@ -107,8 +115,9 @@ describes calls.",
 Exit status:
   0    no interleaving has a violation
   1    a violation, or a faulty design
-  2    a faulty command line
+  2    a faulty command line, or the graph would be written over its design
   3    reading, writing or memory failed
-  4    no violation so far, but the search gave up, or made random interleavings
+  4    no violation so far, but the search gave up, or made random interleavings;
+       or too many states for --dot
   141  nobody reads the output"
 );

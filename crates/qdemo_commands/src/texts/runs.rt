@@ -100,9 +100,12 @@ wait for one another is listed below the rows. On a terminal, and with --text,
 the drawing is columns of text. Otherwise it is SVG, which a browser shows.
 docs/CHARTS.md explains how to read it.
 
-Of a FILE.design, the run that shows its fault is drawn. At most 400 calls can
-be drawn. Draw a part of a longer run with --from and --to. 'qdemo help script'
-describes scripts, and 'qdemo help explore' designs.",
+Of a FILE.design, the run that shows its fault is drawn, with the names of the
+design. The calls in which the fault shows are red, and the calls that it
+doesn't depend on are grey. In text they have the signs ! and ~.
+
+At most 400 calls can be drawn. Draw a part of a longer run with --from and
+--to. 'qdemo help script' describes scripts, and 'qdemo help explore' designs.",
     "Example:
   $ qdemo chart first-message.txt -o run.svg
 

@@ -100,7 +100,8 @@ impl SvgCanvas<'_> {
 
     /// Returns the height of the drawing, with its legend.
     pub fn height(&self) -> usize {
-        self.legend().saturating_add(62)
+        let legend = if self.chart.tones.is_empty() { 62 } else { 86 };
+        self.legend().saturating_add(legend)
     }
 }
 

@@ -54,3 +54,36 @@ pub const LEGEND: &str =
 <circle class=\"ring\" cx=\"396\" cy=\"38\" r=\"4\"/><text x=\"406\" y=\"42\">sent before</text>
 <path class=\"cross\" d=\"M493,33 L503,43 M503,33 L493,43\"/><text x=\"510\" y=\"42\">cancelled</text>
 ";
+
+/// The styles and the heads of the arrows of calls that are drawn in red or in grey.
+pub const TONES: &str = "<style>
+.faulty .words, .faulty .cut, .faulty .change, .faulty .dot { fill: #c4001d }
+.faulty .message, .faulty .answer, .faulty .pulse, .faulty .ring { stroke: #c4001d }
+.faulty .message, .faulty .answer { marker-end: url(#faulty) }
+.faulty .pulse { marker-end: url(#faulty-open) }
+.harmless .words, .harmless .cut, .harmless .change, .harmless .dot { fill: #767676 }
+.harmless .message, .harmless .answer, .harmless .pulse, .harmless .ring { stroke: #767676 }
+.harmless .message, .harmless .answer { marker-end: url(#harmless) }
+.harmless .pulse { marker-end: url(#harmless-open) }
+</style>
+<defs>
+<marker id=\"faulty\" viewBox=\"0 0 10 10\" refX=\"9\" refY=\"5\" markerWidth=\"10\" markerHeight=\"10\"
+ markerUnits=\"userSpaceOnUse\" orient=\"auto\"><path d=\"M0,0 L10,5 L0,10 z\" fill=\"#c4001d\"/></marker>
+<marker id=\"faulty-open\" viewBox=\"0 0 10 10\" refX=\"9\" refY=\"5\" markerWidth=\"10\" markerHeight=\"10\"
+ markerUnits=\"userSpaceOnUse\" orient=\"auto\"><path d=\"M1,1 L9,5 L1,9\" fill=\"none\" stroke=\"#c4001d\"
+ stroke-width=\"1.8\"/></marker>
+<marker id=\"harmless\" viewBox=\"0 0 10 10\" refX=\"9\" refY=\"5\" markerWidth=\"10\" markerHeight=\"10\"
+ markerUnits=\"userSpaceOnUse\" orient=\"auto\"><path d=\"M0,0 L10,5 L0,10 z\" fill=\"#767676\"/></marker>
+<marker id=\"harmless-open\" viewBox=\"0 0 10 10\" refX=\"9\" refY=\"5\" markerWidth=\"10\" markerHeight=\"10\"
+ markerUnits=\"userSpaceOnUse\" orient=\"auto\"><path d=\"M1,1 L9,5 L1,9\" fill=\"none\" stroke=\"#767676\"
+ stroke-width=\"1.8\"/></marker>
+</defs>
+";
+
+/// A third line of the legend, for a chart with calls in red or in grey.
+pub const TONES_LEGEND: &str =
+    "<g class=\"faulty\"><circle class=\"dot\" cx=\"7\" cy=\"62\" r=\"4\"/><text class=\"words\" x=\"20\" y=\"66\"\
+     >the fault shows in this call</text></g>
+<g class=\"harmless\"><circle class=\"dot\" cx=\"247\" cy=\"62\" r=\"4\"/><text class=\"words\" x=\"260\" y=\"66\"\
+     >harmless: the fault doesn't depend on this call</text></g>
+";
