@@ -28,9 +28,6 @@ pub fn refuse_signs(alloc: Global, parts: &[Token<'_>]) -> NamesRead<()> {
         [_, colon, equals, ..] if colon.is_word(":") && is_equals(equals) => {
             Err(expected(alloc, colon, NamesExpected::Equals))
         }
-        [name, equals, ..] if is_equals(equals) && matches!(name.bytes, [.., b':']) => {
-            Err(expected(alloc, name, NamesExpected::Equals))
-        }
         _ => Ok(()),
     }
 }
