@@ -1,4 +1,5 @@
-use Rattle.balsaeuchre_c.proofs.Common.{[], ap, cond, inr, refl, subst, sym, ◌++◌, ◌∙◌, ◌∷◌}
+use Rattle.balsaeuchre_c.proofs.Common.{[], ap, inr, refl, subst, sym, ◌++◌, ◌∙◌, ◌∷◌}
+use Rattle.std.proofs.Common.{cond}
 use Rattle.qshared.proofs.Busy.{is_event, same_called}
 use Rattle.qshared.specs.Answered.{Answered}
 use Rattle.qshared.specs.Collected.{collected_at}
