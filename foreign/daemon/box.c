@@ -1,4 +1,5 @@
 /* The calling thread's socket, box and bell, by which it asks the daemon. Tested, not proved. */
+#include <poll.h>
 #include <sys/mman.h>
 
 /* A thread spins at its box before it sleeps. A call that waits for another program spins only with three
@@ -28,10 +29,13 @@ static int looks_for(const struct wire_ask *ask) {
     return own.processors > (waits ? 2 : 1) ? waits ? LONG_LOOKS : LOOKS : 0;
 }
 
-/* Sleeps until the daemon has sent the byte that follows the answer, or until the daemon has ended. */
+/* Sleeps until the daemon has sent the byte that follows the answer, or until the daemon has ended. A signal ends poll,
+ * but the host may begin recv again. Then ThreadSanitizer would keep the signal until the answer. */
 static void sleep_at_socket(void) {
+    struct pollfd answered = {.fd = own.socket, .events = POLLIN};
     char byte;
-    while (recv(own.socket, &byte, 1, 0) == -1 && errno == EINTR) continue;
+    do poll(&answered, 1, -1);
+    while (recv(own.socket, &byte, 1, MSG_DONTWAIT) == -1 && (errno == EINTR || errno == EAGAIN));
 }
 
 /* Waits for the answer. A daemon that is killed doesn't change the word, but the host closes its

@@ -70,9 +70,10 @@ struct program {
     struct explore_run *run;
     struct request request; /* of the present run */
     uint32_t planned;
-    struct outcome outcome;                /* of the last run */
-    uint32_t seen_events;                  /* when the run was last seen to make progress, */
-    double seen_at, seen_cpu, seen_queued; /* and the time, the processor time and the wait for processors then */
+    struct outcome outcome; /* of the last run */
+    uint32_t seen_events;   /* when the run was last seen to make progress, */
+    double seen_cpu;        /* and the processor time then */
+    double looked_at, idle; /* the last look; the seconds since then in which no thread was busy */
     bool was_killed, spins;
     void *origin; /* what the search keeps for the run */
 };

@@ -13,6 +13,7 @@ enum { STARTS = 10 };                      /* seconds in which a program has to 
 enum { LOOK = 100 };                       /* milliseconds between looks at a run */
 static const double SPINS = 1, STOPS = 10; /* seconds of the processor, and idle ones, without an event, */
 enum { SLOWER = 20 };                      /* and how many times as long with ThreadSanitizer */
+enum { STATE_TEXT = 512 };                 /* bytes */
 
 static int states_file = -1;
 static struct explore_states *visited;
@@ -179,59 +180,64 @@ static void begin_run(struct program *p, const struct options *o, const struct r
     empty(p->errors);
     p->was_killed = p->spins = false;
     p->seen_events = 0;
-    p->seen_at = seconds_now();
+    p->looked_at = seconds_now();
+    p->idle = 0;
     p->seen_cpu = 0;
     bool is_sent = write(p->commands, &command, sizeof command) == sizeof command;
     if (!is_sent || !read_number(p, &p->child, STARTS * 1000)) give_up("the program's server has ended");
 }
 
-/* Returns the seconds of the processor that a process has used. */
-static double processor_time(pid_t pid) {
-    char path[64], text[512];
-    unsigned long user = 0, system = 0;
-    snprintf(path, sizeof path, "/proc/%d/stat", (int)pid);
+/* Reads the line of the host about a process or a thread, and returns its fields after the name, or null. */
+static const char *read_state(const char *path, char text[STATE_TEXT]) {
     FILE *file = fopen(path, "r");
-    size_t length = file ? fread(text, 1, sizeof text - 1, file) : 0;
+    size_t length = file ? fread(text, 1, STATE_TEXT - 1, file) : 0;
     if (file) fclose(file);
     text[length] = 0;
     const char *after = strrchr(text, ')');
-    if (!after || sscanf(after + 1, " %*c %*d %*d %*d %*d %*d %*u %*u %*u %*u %*u %lu %lu", &user, &system) != 2)
-        return 0;
+    return after && after[1] == ' ' ? after + 2 : NULL;
+}
+
+/* Returns the seconds of the processor that a process has used. */
+static double processor_time(pid_t pid) {
+    char path[64], text[STATE_TEXT];
+    unsigned long user = 0, system = 0;
+    snprintf(path, sizeof path, "/proc/%d/stat", (int)pid);
+    const char *fields = read_state(path, text);
+    if (!fields || sscanf(fields, "%*c %*d %*d %*d %*d %*d %*u %*u %*u %*u %*u %lu %lu", &user, &system) != 2) return 0;
     return (double)(user + system) / (double)sysconf(_SC_CLK_TCK);
 }
 
-/* Returns the seconds that the threads of a process have waited for a processor. */
-static double queued_time(pid_t pid) {
-    char path[64 + NAME_MAX];
-    unsigned long long waited, all = 0;
+/* Whether a thread of a process computes, or waits for a processor or for the disk. */
+static bool is_busy(pid_t pid) {
+    char path[64 + NAME_MAX], text[STATE_TEXT];
+    bool found = false;
     snprintf(path, sizeof path, "/proc/%d/task", (int)pid);
     DIR *threads = opendir(path);
-    for (const struct dirent *thread; threads && (thread = readdir(threads));) {
-        snprintf(path, sizeof path, "/proc/%d/task/%s/schedstat", (int)pid, thread->d_name);
-        FILE *file = fopen(path, "r");
-        if (file && fscanf(file, "%*u %llu", &waited) == 1) all += waited;
-        if (file) fclose(file);
+    for (const struct dirent *thread; threads && !found && (thread = readdir(threads));) {
+        snprintf(path, sizeof path, "/proc/%d/task/%s/stat", (int)pid, thread->d_name);
+        const char *fields = read_state(path, text);
+        found = fields && (*fields == 'R' || *fields == 'D');
     }
     if (threads) closedir(threads);
-    return (double)all / 1e9;
+    return found;
 }
 
-/* Ends a run that makes no progress: it computes, or it is idle. On a busy machine a thread that computes waits for a
- * processor, and isn't idle. */
+/* Ends a run that makes no progress: it computes, or it is idle. On a busy machine a thread may wait for a processor
+ * for long, and this process too. So a look counts as LOOK at most, and only if no thread is busy. */
 static void look_at_progress(struct program *p) {
-    double now = seconds_now(), cpu = processor_time(p->child), queued = queued_time(p->child);
+    double cpu = processor_time(p->child), now = seconds_now(), since = now - p->looked_at;
     uint32_t events = p->run->event_count;
+    p->looked_at = now;
     if (events != p->seen_events || !p->seen_cpu) {
         p->seen_events = events;
-        p->seen_at = now;
         p->seen_cpu = cpu > 0 ? cpu : 1e-9;
-        p->seen_queued = queued;
+        p->idle = 0;
         return;
     }
-    double factor = p->run->has_tsan ? SLOWER : 1, computed = cpu - p->seen_cpu;
-    double idle = now - p->seen_at - computed - (queued - p->seen_queued);
-    p->spins = computed >= SPINS * factor;
-    if (!p->spins && idle < STOPS * factor) return;
+    double factor = p->run->has_tsan ? SLOWER : 1;
+    if (!is_busy(p->child)) p->idle += since < LOOK / 1e3 ? since : LOOK / 1e3;
+    p->spins = cpu - p->seen_cpu >= SPINS * factor;
+    if (!p->spins && p->idle < STOPS * factor) return;
     p->was_killed = true;
     kill(p->child, SIGKILL);
 }

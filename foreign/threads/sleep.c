@@ -86,20 +86,33 @@ __attribute__((noinline, cold)) static enum woken wait_for_turn(struct place *p,
     }
 }
 
+/* A function of ThreadSanitizer, or null in a program without it. */
+__attribute__((weak)) void __tsan_acquire(void *at);
+
+/* Sleeps at the word, until a time that is not 0. Returns whether this time has come. ThreadSanitizer keeps a
+ * signal until its thread calls one of the functions that it replaces. So with it a thread sleeps for up to
+ * SLICE nanoseconds, and then calls one, clock_gettime. */
+static bool sleep_at_word(struct place *p, uint64_t until) {
+    enum { SLICE = 10000000 };
+    uint64_t slice = __tsan_acquire ? now() + SLICE : 0;
+    bool is_cut = slice && (!until || slice < until);
+    uint64_t last = is_cut ? slice : until;
+    struct timespec end = {(time_t)(last / 1000000000u), (long)(last % 1000000000u)};
+    long woken = syscall(SYS_futex, &p->word, FUTEX_WAIT_BITSET_PRIVATE, ASLEEP, last ? &end : NULL, NULL,
+                         FUTEX_BITSET_MATCH_ANY);
+    return woken == -1 && errno == ETIMEDOUT && !is_cut;
+}
+
 /* Waits until the call is completed or interrupted, or until a time that is not 0. An interruption changes
  * the word, which futex compares. So no interruption is lost, wherever in this function its handler runs. */
 static enum woken sleep_until(struct place *p, uint64_t until) {
-    struct timespec end = {0, 0};
     uint32_t open = OPEN;
     if (kernel->scheduler) return wait_for_turn(p, until);
     if (look(p)) return HAS_ENDED;
-    if (until) end = (struct timespec){(time_t)(until / 1000000000u), (long)(until % 1000000000u)};
     atomic_compare_exchange_strong(&p->word, &open, ASLEEP);
     while (!is_ended(p)) {
         if (atomic_load(&p->word) == INTERRUPTED) return WAS_INTERRUPTED;
-        long woken = syscall(SYS_futex, &p->word, FUTEX_WAIT_BITSET_PRIVATE, ASLEEP, until ? &end : NULL, NULL,
-                             FUTEX_BITSET_MATCH_ANY);
-        if (woken == -1 && errno == ETIMEDOUT) return is_ended(p) ? HAS_ENDED : TIMED_OUT;
+        if (sleep_at_word(p, until)) return is_ended(p) ? HAS_ENDED : TIMED_OUT;
     }
     return HAS_ENDED;
 }

@@ -116,106 +116,6 @@ static void idle(void) {
     check(ChannelDestroy(chid) == 0 && pthread_join(thread, NULL) == 0);
 }
 
-/* ---- long requests of one program */
-
-enum { LONG = 1 << 20, ROUNDS = 400, PAIRS = 5 };
-
-static void echo(void *name) {
-    static char bytes[LONG + 64];
-    struct _msg_info info;
-    name_attach_t *attached = name_attach(NULL, name, 0);
-    check(attached);
-    for (;;) {
-        rcvid_t rcvid = receive_answering_opens(attached->chid, bytes, sizeof bytes, &info);
-        if (rcvid > 0) check(MsgReply(rcvid, 0, bytes, (size_t)info.msglen) == 0 || errno == ESRCH);
-    }
-}
-
-static void send_long(void *name) {
-    static char sent[LONG], got[LONG];
-    int coid = open_name(name);
-    for (;;) check(MsgSend(coid, sent, LONG, got, LONG) == 0);
-}
-
-/* Returns the microseconds of a round trip of four bytes. */
-static double round_trip(int coid) {
-    char bytes[4] = "abc";
-    double start = seconds(CLOCK_MONOTONIC);
-    for (int round = 0; round < ROUNDS; round++) check(MsgSend(coid, bytes, 4, bytes, 4) == 0);
-    return (seconds(CLOCK_MONOTONIC) - start) * 1e6 / ROUNDS;
-}
-
-static int compare(const void *a, const void *b) {
-    double first = *(const double *)a, second = *(const double *)b;
-    return first < second ? -1 : first > second;
-}
-
-/* Another program's messages of 1 MiB make a round trip only a little longer. The median of the differences
- * is compared with the time of one such message while no other program makes requests. */
-static void greedy(void) {
-    static char sent[LONG], got[LONG];
-    pid_t server = spawn(echo, "short"), long_server = spawn(echo, "long");
-    int coid = open_name("short"), long_coid = open_name("long");
-    double start = seconds(CLOCK_MONOTONIC), more[PAIRS], usual[PAIRS];
-    for (int round = 0; round < 20; round++) check(MsgSend(long_coid, sent, LONG, got, LONG) == 0);
-    double one = (seconds(CLOCK_MONOTONIC) - start) * 1e6 / 20;
-    for (int turn = 0; turn < PAIRS; turn++) {
-        double alone = usual[turn] = round_trip(coid);
-        pid_t client = spawn(send_long, "long");
-        usleep(50000);
-        double beside = round_trip(coid);
-        kill_child(client);
-        more[turn] = beside - alone;
-        if (getenv("VERBOSE")) fprintf(stderr, "%.1f us, %.1f beside; 1 MiB %.0f\n", alone, beside, one);
-    }
-    qsort(more, PAIRS, sizeof *more, compare);
-    qsort(usual, PAIRS, sizeof *usual, compare);
-    /* If round trips take longer than this, their program doesn't count as another that makes requests.
-     * Then nothing can be measured. */
-    if (usual[PAIRS / 2] > 2000) fprintf(stderr, "greedy: the machine is too busy to measure\n");
-    else check(more[PAIRS / 2] < one / 40 + usual[PAIRS / 2]);
-    kill_child(server);
-    kill_child(long_server);
-}
-
-/* Receives the first bytes of each message, and replies with them: its own requests are short. */
-static void acknowledge(void *name) {
-    char bytes[4];
-    struct _msg_info info;
-    name_attach_t *attached = name_attach(NULL, name, 0);
-    check(attached);
-    for (;;) {
-        rcvid_t rcvid = receive_answering_opens(attached->chid, bytes, sizeof bytes, &info);
-        if (rcvid > 0) check(MsgReply(rcvid, 0, bytes, sizeof bytes) == 0 || errno == ESRCH);
-    }
-}
-
-/* The median of the microseconds in which a server gets this many bytes. */
-static double median_send(int coid, size_t bytes) {
-    static char sent[LONG], got[4];
-    double trips[TURNS];
-    for (int turn = 0; turn < TURNS; turn++) {
-        double start = seconds(CLOCK_MONOTONIC);
-        check(MsgSend(coid, sent, bytes, got, sizeof got) == 0);
-        trips[turn] = (seconds(CLOCK_MONOTONIC) - start) * 1e6;
-    }
-    qsort(trips, TURNS, sizeof *trips, compare);
-    return trips[TURNS / 2];
-}
-
-/* A client and its server don't wait for each other's turn: after messages of 1 MiB the client's short ones take as
- * long as before. If the server counted as another program that asks, they would wait for milliseconds. */
-static void partners(void) {
-    pid_t server = spawn(acknowledge, "short");
-    int coid = open_name("short");
-    double before = median_send(coid, LONG / 40);
-    median_send(coid, LONG);
-    double after = median_send(coid, LONG / 40);
-    if (getenv("VERBOSE")) fprintf(stderr, "26 KB: %.0f us before, %.0f us after\n", before, after);
-    check(after < 10 * before);
-    kill_child(server);
-}
-
 /* ---- whose daemon it is */
 
 struct shared {
@@ -570,9 +470,8 @@ static const struct {
     const char *name;
     void (*run)(void);
 } tests[] = {
-    TEST(timeouts),  TEST(idle),          TEST(greedy),   TEST(partners),  TEST(owners),
-    TEST(places),    TEST(longest),       TEST(no_place), TEST(no_thread), TEST(closed_files),
-    TEST(strangers), TEST(told_channels), TEST(again),    TEST(not_again),
+    TEST(timeouts),  TEST(idle),         TEST(owners),    TEST(places),        TEST(longest), TEST(no_place),
+    TEST(no_thread), TEST(closed_files), TEST(strangers), TEST(told_channels), TEST(again),   TEST(not_again),
 };
 
 static void run(void *at) { tests[(intptr_t)at].run(); }

@@ -79,6 +79,13 @@ static void unknown(void) {
     pthread_join(thread, NULL);
 }
 
+/* It waits in a function of the host that no header redirects. */
+static void waits(void) {
+    int ends[2];
+    char byte;
+    if (!pipe(ends) && read(ends[0], &byte, 1) == 1) exit(5);
+}
+
 /* The sleep takes no time of the clock. */
 static void passes(void) {
     struct timespec begin, end;
@@ -94,8 +101,8 @@ static const struct {
     const char *name;
     void (*run)(void);
 } cases[] = {
-    CASE(deadlock), CASE(locks), CASE(crash),   CASE(status), CASE(badf),
-    CASE(endless),  CASE(forks), CASE(unknown), CASE(passes), CASE(garbles),
+    CASE(deadlock), CASE(locks),   CASE(crash),  CASE(status),  CASE(badf),  CASE(endless),
+    CASE(forks),    CASE(unknown), CASE(passes), CASE(garbles), CASE(waits),
 };
 
 int main(int count, char **words) {

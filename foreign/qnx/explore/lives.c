@@ -1,6 +1,7 @@
 /* The lives of the tasks of an explored run. Tested, not proved. */
 
-/* Returns a new task, from this index on, or null. A task that has ended is used again only if there is no other. */
+/* Returns a new task, from this index on, or null. It has no thread yet: the thread tells it, or the thread that
+ * creates it. A task that has ended is used again only if there is no other. */
 static struct task *new_task(int first) {
     int at = first;
     while (at < SERVICE && life_of(&tasks[at]) != ABSENT) at++;
@@ -12,7 +13,6 @@ static struct task *new_task(int first) {
     *t = (struct task){.shown = &run->tasks[at], .past = me ? mix_in(me->past, DO_START) : 1};
     *t->shown = (struct explore_task){.life = PRESENT, .operation = DO_START, .other = TASKS};
     set_accesses(t->accesses, DO_START, &(struct about){0});
-    t->thread = pthread_self();
     if (me) note_ended(t);
     return t;
 }

@@ -64,6 +64,7 @@ __attribute__((constructor(101))) static void begin_exploring(void) {
     for (int file = RUN_FILE; file <= ANSWERS_FILE; file++) close(file);
     exploring = true;
     me = last = new_task(0);
+    me->thread = pthread_self();
     me->host = getpid();
     pthread_atfork(refuse_fork, NULL, NULL);
     atexit(step_exit);
