@@ -12,6 +12,9 @@ use Rattle.balsaeuchre_c.proofs.Common.{via, vptr, walk_Meets, walk_of, walked, 
 use Rattle.balsaeuchre_c.proofs.Common.{◌≡◌, ◌⊛◌}
 use Rattle.balsaeuchre_c.proofs.AsDeskBox.{E}
 use Rattle.balsaeuchre_c.specs.PortsLending.{with_desk}
+use Rattle.balsaeuchre_c.specs.contracts.ports.desk_handle.DeskHandle.{the_row as Hd}
+use Rattle.balsaeuchre_c.specs.contracts.ports.desk_handle.DeskHandle.get_mut.Key.{name as #self}
+use Rattle.balsaeuchre_c.specs.contracts.ports.library_desk.LibraryDesk.{the_row as K}
 use Rattle.balsaeuchre_c.specs.declared.ports.library_desk.LibraryDesk.{LibraryDesk}
 use Rattle.std_alloc.proofs.VecSteps.Shapes.{after}
 use denote.Follow.{Part, follows, lends_Part}

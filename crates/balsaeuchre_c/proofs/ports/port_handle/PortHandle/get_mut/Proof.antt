@@ -12,6 +12,9 @@ use Rattle.balsaeuchre_c.proofs.Common.{via, vptr, walk_Meets, walk_of, walked, 
 use Rattle.balsaeuchre_c.proofs.Common.{◌≡◌, ◌⊛◌}
 use Rattle.balsaeuchre_c.proofs.AsPortBox.{E}
 use Rattle.balsaeuchre_c.specs.PortsLending.{with_port}
+use Rattle.balsaeuchre_c.specs.contracts.ports.port_handle.PortHandle.{the_row as Hd}
+use Rattle.balsaeuchre_c.specs.contracts.ports.port_handle.PortHandle.get_mut.Key.{name as #self}
+use Rattle.balsaeuchre_c.specs.contracts.ports.library_port.LibraryPort.{the_row as K}
 use Rattle.balsaeuchre_c.specs.declared.ports.library_port.LibraryPort.{LibraryPort}
 use Rattle.std_alloc.proofs.VecSteps.Shapes.{after}
 use denote.Follow.{Part, follows, lends_Part}

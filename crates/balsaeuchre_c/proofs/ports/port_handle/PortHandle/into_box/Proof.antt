@@ -11,6 +11,8 @@ use Rattle.balsaeuchre_c.proofs.Common.{says, seq, sets, some, split, split3, st
 use Rattle.balsaeuchre_c.proofs.Common.{sym, tables, tables_of, token, triple_of, use1, vptr, walk_Meets, walk_of}
 use Rattle.balsaeuchre_c.proofs.Common.{whole, word, yes, ‵, ⊑_static, ◌$◌, ◌++◌, ◌∵◌, ◌∷◌, ◌≡◌, ◌⊑◌, ◌⊛◌}
 use Rattle.balsaeuchre_c.proofs.AsPortBox.{E}
+use Rattle.balsaeuchre_c.proofs.Destruct++none.drop.Code.{code as no_drop}
+use Rattle.balsaeuchre_c.specs.contracts.ports.port_handle.PortHandle.into_box.Key.{name as #self}
 use Rattle.std_heap.proofs.GlobalAllocator.TheImpl.Met.{passed}
 use denote.Param.NoDrop.{glues}
 use types.Kit.{Item, drop, use0}
