@@ -2,10 +2,12 @@
 
 use crate::command::ExploreRun;
 use crate::json::verdicts::{found_verdict, gave_up_verdict, nothing_verdict, random_verdict};
+use qexplore::counts::SearchCounts;
 use qexplore::explore::{Observer, explore};
 use qexplore::random::try_some;
-use qexplore::verdict::Verdict;
+use qexplore::verdict::{Summary, Verdict};
 use qexplore::violation::Counterexample;
+use qexplore_design::verdict::lines::UnreachedLines;
 use qexplore_design::verdict::words::{DesignSource, VerdictWords, found_script};
 use serde_json::Value;
 use std::alloc::AllocError;
@@ -16,8 +18,12 @@ const NOT_ALL: u8 = 4;
 /// The outcome of a search.
 #[derive(Drop)]
 pub enum SearchEnd {
-    /// It made every interleaving, or gave up.
-    Searched(Verdict),
+    /// It made every interleaving and found no violation. No interleaving comes to these lines.
+    Nothing(Summary, UnreachedLines),
+    /// An interleaving has a violation.
+    Found(Counterexample),
+    /// It gave up.
+    GaveUp(SearchCounts),
     /// A random interleaving has a violation.
     RandomFound(Counterexample),
     /// This many random interleavings, made with this seed, have none.
@@ -28,9 +34,9 @@ impl SearchEnd {
     /// Returns the exit status.
     pub fn status(&self) -> u8 {
         match self {
-            SearchEnd::Searched(Verdict::Found(_)) | SearchEnd::RandomFound(_) => 1,
-            SearchEnd::Searched(Verdict::Nothing(_)) => 0,
-            SearchEnd::Searched(Verdict::GaveUp(_)) | SearchEnd::RandomNothing { .. } => NOT_ALL,
+            SearchEnd::Found(_) | SearchEnd::RandomFound(_) => 1,
+            SearchEnd::Nothing(_, _) => 0,
+            SearchEnd::GaveUp(_) | SearchEnd::RandomNothing { .. } => NOT_ALL,
         }
     }
 
@@ -41,11 +47,11 @@ impl SearchEnd {
         in_names: bool,
     ) -> Result<VerdictWords, AllocError> {
         match self {
-            SearchEnd::Searched(Verdict::Found(found)) => {
+            SearchEnd::Found(found) => {
                 source.found_words(found, "a shortest run", in_names)
             }
-            SearchEnd::Searched(Verdict::Nothing(summary)) => source.nothing_words(summary),
-            SearchEnd::Searched(Verdict::GaveUp(tally)) => source.gave_up_words(*tally),
+            SearchEnd::Nothing(summary, lines) => source.nothing_words(summary, lines),
+            SearchEnd::GaveUp(tally) => source.gave_up_words(*tally),
             SearchEnd::RandomFound(found) => source.found_words(found, "a run", in_names),
             SearchEnd::RandomNothing { count, seed } => source.chance_words(*count, *seed),
         }
@@ -54,7 +60,7 @@ impl SearchEnd {
     /// Returns the violation, if there is one.
     pub fn found(&self) -> Option<&Counterexample> {
         match self {
-            SearchEnd::Searched(Verdict::Found(found)) | SearchEnd::RandomFound(found) => Some(
+            SearchEnd::Found(found) | SearchEnd::RandomFound(found) => Some(
                 found,
             ),
             _ => None,
@@ -82,9 +88,9 @@ impl SearchEnd {
     /// Returns the outcome as an object of JSON.
     pub fn verdict(&self, source: DesignSource<'_>) -> Result<Value, AllocError> {
         match self {
-            SearchEnd::Searched(Verdict::Found(found)) => found_verdict(source, found, true),
-            SearchEnd::Searched(Verdict::Nothing(summary)) => nothing_verdict(source, summary),
-            SearchEnd::Searched(Verdict::GaveUp(tally)) => gave_up_verdict(source, *tally),
+            SearchEnd::Found(found) => found_verdict(source, found, true),
+            SearchEnd::Nothing(summary, lines) => nothing_verdict(source, summary, lines),
+            SearchEnd::GaveUp(tally) => gave_up_verdict(source, *tally),
             SearchEnd::RandomFound(found) => found_verdict(source, found, false),
             SearchEnd::RandomNothing { count, seed } => random_verdict(source, *count, *seed),
         }
@@ -106,6 +112,13 @@ pub fn search<W: Observer>(
         });
     }
     let most = run.most as usize;
-    let verdict = explore(alloc, design, most, !run.no_symmetry, progress)?;
-    Ok(SearchEnd::Searched(verdict))
+    let symmetry = !run.no_symmetry;
+    Ok(match explore(alloc, design, most, symmetry, progress)? {
+        Verdict::Nothing(summary) => {
+            let lines = source.unreached(most, symmetry, progress)?;
+            SearchEnd::Nothing(summary, lines)
+        }
+        Verdict::Found(found) => SearchEnd::Found(found),
+        Verdict::GaveUp(tally) => SearchEnd::GaveUp(tally),
+    })
 }

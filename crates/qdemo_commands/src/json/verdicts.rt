@@ -10,6 +10,7 @@ use qexplore::replay::NoObserver;
 use qexplore::verdict::Summary;
 use qexplore::violation::Counterexample;
 use qexplore_design::verdict::chosen_names::ScriptNames;
+use qexplore_design::verdict::lines::UnreachedLines;
 use qexplore_design::verdict::replay::{DesignSource, Replay};
 use qexplore_design::verdict::violation::loop_calls;
 use serde_json::Value;
@@ -33,7 +34,11 @@ fn counts_of(source: DesignSource<'_>, tally: SearchCounts) -> Result<Record, Al
 }
 
 /// Returns the verdict of a search that found no violation.
-pub fn nothing_verdict(source: DesignSource<'_>, summary: &Summary) -> Result<Value, AllocError> {
+pub fn nothing_verdict(
+    source: DesignSource<'_>,
+    summary: &Summary,
+    lines: &UnreachedLines,
+) -> Result<Value, AllocError> {
     let mut verdict = verdict_of(source.alloc, source.file, "nothing")?;
     let mut counts = counts_of(source, summary.tally)?;
     if let Some(runs) = summary.runs {
@@ -44,7 +49,27 @@ pub fn nothing_verdict(source: DesignSource<'_>, summary: &Summary) -> Result<Va
     }
     verdict.set("counts", counts.into_value())?;
     verdict.set("ends", ends_of(source, summary.ends.as_slice())?)?;
+    verdict.set("lines", lines_of(source.alloc, lines)?.into_value())?;
     Ok(verdict.into_value())
+}
+
+/// Returns the lines that no interleaving comes to.
+fn lines_of(alloc: Global, lines: &UnreachedLines) -> Result<Record, AllocError> {
+    let mut record = Record::new(alloc);
+    record.set("is_proved", lines.is_proved)?;
+    record.set("never_reached", numbers_of(alloc, lines.never_reached.as_slice())?)?;
+    record.set("never_true", numbers_of(alloc, lines.never_true.as_slice())?)?;
+    record.set("always_true", numbers_of(alloc, lines.always_true.as_slice())?)?;
+    Ok(record)
+}
+
+/// Returns a list of numbers.
+fn numbers_of(alloc: Global, numbers: &[u64]) -> Result<Value, AllocError> {
+    let mut values: Vec<Value> = Vec::new(alloc);
+    for number in numbers {
+        values.push(Value::from(*number))?;
+    }
+    Ok(Value::Array(values))
 }
 
 /// Returns the ends of the interleavings. An end with the same places is listed only once.
