@@ -88,6 +88,8 @@ pub struct ExploreRun {
     pub names: bool,
     /// Whether the output is an object of JSON.
     pub json: bool,
+    /// Whether the search goes on past a violation, and the first of each kind and line is printed.
+    pub all: bool,
     /// Whether the symmetry reduction is off: two states count as two even if they differ only in which of
     /// equal copies did what.
     pub no_symmetry: bool,
@@ -200,6 +202,7 @@ fn explore_of(alloc: Global, matches: &ArgMatches<'_>, screen: Screen) -> Run<Ex
     Ok(ExploreRun {
         file: file_of(alloc, matches.get_str("file"))?,
         listing: matches.get_flag("listing"),
+        all: matches.get_flag("all"),
         no_symmetry: matches.get_flag("no-symmetry"),
         script: matches.get_flag("script"),
         names: matches.get_flag("names") || screen.output,

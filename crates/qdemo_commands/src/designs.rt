@@ -1,5 +1,6 @@
 //! Unproved: words and layout. Explores the design of a file: every interleaving of its threads.
 
+mod all;
 pub mod picture;
 mod search_end;
 
@@ -11,6 +12,7 @@ use crate::json::push_line;
 use crate::json::verdicts::verdict_of;
 use crate::kinds::{OtherKind, TextKind};
 use crate::remarks::FaultSource;
+use all::explore_all;
 use qexplore::explore::Observer;
 use qexplore_design::design_fault::DesignFault;
 use qexplore_design::verdict::words::{DesignSource, VerdictWords};
@@ -70,7 +72,7 @@ pub fn words_of(alloc: Global, file: &str, text: &[u8]) -> Result<Reported, Allo
         most: MOST_GLOBAL_STATES,
         ..ExploreRun::default()
     };
-    let ended = search(&run, source, &mut Nobody)?;
+    let ended = search(&run, source, true, &mut Nobody)?;
     Ok(Ok(ended.words(source, false)?.text()?))
 }
 
@@ -133,6 +135,9 @@ pub fn run_explore<R: Files + Input + Print + Eprint + AllocGlobal>(
         }
         Err(_) => return Err(end_failed(rt, "out of memory")),
     };
+    if run.all {
+        return explore_all(rt, run, file, text, design);
+    }
     let source = DesignSource {
         alloc: rt.alloc(),
         file,
@@ -223,7 +228,17 @@ fn told_of<R: Eprint + AllocGlobal>(
     run: &ExploreRun,
     source: DesignSource<'_>,
 ) -> Result<(SearchOutput, u8), AllocError> {
-    let ended = search_shown(rt, run, source)?;
+    let ended = search_shown(rt, run, source, true)?;
+    let output = output_of(run, source, &ended)?;
+    Ok((output, ended.status()))
+}
+
+/// Returns the output of a search.
+fn output_of(
+    run: &ExploreRun,
+    source: DesignSource<'_>,
+    ended: &SearchEnd,
+) -> Result<SearchOutput, AllocError> {
     let text = if run.json {
         Some(line_of(source.alloc, &ended.verdict(source)?)?)
     } else if run.script {
@@ -231,11 +246,10 @@ fn told_of<R: Eprint + AllocGlobal>(
     } else {
         None
     };
-    let told = match text {
+    Ok(match text {
         Some(text) => SearchOutput::Text(text),
         None => SearchOutput::Words(ended.words(source, run.names)?),
-    };
-    Ok((told, ended.status()))
+    })
 }
 
 /// Prints the output of a search, and returns its exit status. If `--script` has no run to print, the words
@@ -276,11 +290,13 @@ fn painted(
     format!(in alloc; "{begin}{}{end}\n{}", words.headline, words.details)
 }
 
-/// Makes the requested search and shows its progress.
+/// Makes the requested search and shows its progress. With `lines` it looks for lines that no interleaving comes
+/// to.
 pub fn search_shown<R: Eprint + AllocGlobal>(
     rt: &R,
     run: &ExploreRun,
     source: DesignSource<'_>,
+    lines: bool,
 ) -> Result<SearchEnd, AllocError> {
     let mut progress = ProgressLine {
         rt,
@@ -288,7 +304,7 @@ pub fn search_shown<R: Eprint + AllocGlobal>(
         steps: 0,
         shown: false,
     };
-    let ended = search(run, source, &mut progress);
+    let ended = search(run, source, lines, &mut progress);
     if progress.shown {
         let _ = eprint!(rt; "\r{:40}\r", "");
     }

@@ -182,6 +182,7 @@ fn explore_command<'a>(alloc: Global) -> Build<'a> {
     let help = "The design's file; standard input if missing or -";
     let script = "Print only the run that shows a violation, as a script";
     let listing = "Print the design as rows of JSON, and explore nothing";
+    let all = "Go on past a violation, and print the first of each kind and line";
     let symmetry = "Distinguish equal copies: no symmetry reduction";
     let flags = [
         ("script", script, "json"),
@@ -192,6 +193,7 @@ fn explore_command<'a>(alloc: Global) -> Build<'a> {
             listing,
             "script names json no-symmetry most random",
         ),
+        ("all", all, "script listing random"),
         ("no-symmetry", symmetry, "random"),
     ];
     let count = value_parser!(u32).range(1..4294967295);

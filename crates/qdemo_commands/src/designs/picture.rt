@@ -58,7 +58,7 @@ pub fn design_drawing<R: Eprint + AllocGlobal>(
         screen,
         ..ExploreRun::default()
     };
-    let ended = search_shown(rt, &run, source);
+    let ended = search_shown(rt, &run, source, false);
     let ended = ended.map_err(|_| end_failed(rt, "out of memory"))?;
     match ended.found() {
         Some(found) => Ok(drawn_fault(source, found, view)),

@@ -18,8 +18,9 @@ const NOT_ALL: u8 = 4;
 /// The outcome of a search.
 #[derive(Drop)]
 pub enum SearchEnd {
-    /// It made every interleaving and found no violation. No interleaving comes to these lines.
-    Nothing(Summary, UnreachedLines),
+    /// It made every interleaving and found no violation. No interleaving comes to these lines, if it looked
+    /// for them.
+    Nothing(Summary, Option<UnreachedLines>),
     /// An interleaving has a violation.
     Found(Counterexample),
     /// It gave up.
@@ -50,7 +51,7 @@ impl SearchEnd {
             SearchEnd::Found(found) => {
                 source.found_words(found, "a shortest run", in_names)
             }
-            SearchEnd::Nothing(summary, lines) => source.nothing_words(summary, lines),
+            SearchEnd::Nothing(summary, lines) => source.nothing_words(summary, lines.as_ref()),
             SearchEnd::GaveUp(tally) => source.gave_up_words(*tally),
             SearchEnd::RandomFound(found) => source.found_words(found, "a run", in_names),
             SearchEnd::RandomNothing { count, seed } => source.chance_words(*count, *seed),
@@ -89,7 +90,7 @@ impl SearchEnd {
     pub fn verdict(&self, source: DesignSource<'_>) -> Result<Value, AllocError> {
         match self {
             SearchEnd::Found(found) => found_verdict(source, found, true),
-            SearchEnd::Nothing(summary, lines) => nothing_verdict(source, summary, lines),
+            SearchEnd::Nothing(summary, lines) => nothing_verdict(source, summary, lines.as_ref()),
             SearchEnd::GaveUp(tally) => gave_up_verdict(source, *tally),
             SearchEnd::RandomFound(found) => found_verdict(source, found, false),
             SearchEnd::RandomNothing { count, seed } => random_verdict(source, *count, *seed),
@@ -97,10 +98,12 @@ impl SearchEnd {
     }
 }
 
-/// Explores all interleavings or makes random ones.
+/// Explores all interleavings or makes random ones. With `lines` it looks for lines that no interleaving comes
+/// to, if there is no violation.
 pub fn search<W: Observer>(
     run: &ExploreRun,
     source: DesignSource<'_>,
+    lines: bool,
     progress: &mut W,
 ) -> Result<SearchEnd, AllocError> {
     let DesignSource { alloc, design, .. } = source;
@@ -115,7 +118,11 @@ pub fn search<W: Observer>(
     let symmetry = !run.no_symmetry;
     Ok(match explore(alloc, design, most, symmetry, progress)? {
         Verdict::Nothing(summary) => {
-            let lines = source.unreached(most, symmetry, progress)?;
+            let lines = if lines {
+                Some(source.unreached(most, symmetry, progress)?)
+            } else {
+                None
+            };
             SearchEnd::Nothing(summary, lines)
         }
         Verdict::Found(found) => SearchEnd::Found(found),

@@ -37,7 +37,7 @@ fn counts_of(source: DesignSource<'_>, tally: SearchCounts) -> Result<Record, Al
 pub fn nothing_verdict(
     source: DesignSource<'_>,
     summary: &Summary,
-    lines: &UnreachedLines,
+    lines: Option<&UnreachedLines>,
 ) -> Result<Value, AllocError> {
     let mut verdict = verdict_of(source.alloc, source.file, "nothing")?;
     let mut counts = counts_of(source, summary.tally)?;
@@ -49,7 +49,9 @@ pub fn nothing_verdict(
     }
     verdict.set("counts", counts.into_value())?;
     verdict.set("ends", ends_of(source, summary.ends.as_slice())?)?;
-    verdict.set("lines", lines_of(source.alloc, lines)?.into_value())?;
+    if let Some(lines) = lines {
+        verdict.set("unreached", lines_of(source.alloc, lines)?.into_value())?;
+    }
     Ok(verdict.into_value())
 }
 
