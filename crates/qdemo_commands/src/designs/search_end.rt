@@ -48,9 +48,7 @@ impl SearchEnd {
         in_names: bool,
     ) -> Result<VerdictWords, AllocError> {
         match self {
-            SearchEnd::Found(found) => {
-                source.found_words(found, "a shortest run", in_names)
-            }
+            SearchEnd::Found(found) => { source.found_words(found, "a shortest run", in_names) }
             SearchEnd::Nothing(summary, lines) => source.nothing_words(summary, lines.as_ref()),
             SearchEnd::GaveUp(tally) => source.gave_up_words(*tally),
             SearchEnd::RandomFound(found) => source.found_words(found, "a run", in_names),
@@ -61,9 +59,7 @@ impl SearchEnd {
     /// Returns the violation, if there is one.
     pub fn found(&self) -> Option<&Counterexample> {
         match self {
-            SearchEnd::Found(found) | SearchEnd::RandomFound(found) => Some(
-                found,
-            ),
+            SearchEnd::Found(found) | SearchEnd::RandomFound(found) => Some(found),
             _ => None,
         }
     }

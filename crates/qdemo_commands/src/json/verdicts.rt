@@ -59,9 +59,18 @@ pub fn nothing_verdict(
 fn lines_of(alloc: Global, lines: &UnreachedLines) -> Result<Record, AllocError> {
     let mut record = Record::new(alloc);
     record.set("is_proved", lines.is_proved)?;
-    record.set("never_reached", numbers_of(alloc, lines.never_reached.as_slice())?)?;
-    record.set("never_true", numbers_of(alloc, lines.never_true.as_slice())?)?;
-    record.set("always_true", numbers_of(alloc, lines.always_true.as_slice())?)?;
+    record.set(
+        "never_reached",
+        numbers_of(alloc, lines.never_reached.as_slice())?,
+    )?;
+    record.set(
+        "never_true",
+        numbers_of(alloc, lines.never_true.as_slice())?,
+    )?;
+    record.set(
+        "always_true",
+        numbers_of(alloc, lines.always_true.as_slice())?,
+    )?;
     Ok(record)
 }
 
@@ -69,7 +78,7 @@ fn lines_of(alloc: Global, lines: &UnreachedLines) -> Result<Record, AllocError>
 fn numbers_of(alloc: Global, numbers: &[u64]) -> Result<Value, AllocError> {
     let mut values: Vec<Value> = Vec::new(alloc);
     for number in numbers {
-        values.push(Value::from(*number))?;
+        values.push((*number).into())?;
     }
     Ok(Value::Array(values))
 }
