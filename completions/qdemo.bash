@@ -12,7 +12,7 @@ _qdemo() {
         check) options="--update --explain --json -h --help" ;;
         play) options="--names -h --help" ;;
         chart) options="-o --output --text --bytes --names-in --from --to -h --help" ;;
-        explore) options="--script --names --json --listing --no-symmetry --most --random --seed -h --help" ;;
+        explore) options="--script --names --json --listing --all --no-symmetry --most --random --seed -h --help" ;;
         serve) options="--clients --servers --rounds --hold --time --json --quiet --record -h --help" ;;
     esac
     case "$command $before" in

@@ -38,6 +38,7 @@ complete -c qdemo -n 'not __fish_seen_subcommand_from help; and __fish_seen_subc
 complete -c qdemo -n 'not __fish_seen_subcommand_from help; and __fish_seen_subcommand_from explore' -l names -d 'Print names in place of numbers, as on a terminal'
 complete -c qdemo -n 'not __fish_seen_subcommand_from help; and __fish_seen_subcommand_from explore' -l json -d 'Print one JSON object in place of lines'
 complete -c qdemo -n 'not __fish_seen_subcommand_from help; and __fish_seen_subcommand_from explore' -l listing -d 'Print the design as rows of JSON, and explore nothing'
+complete -c qdemo -n 'not __fish_seen_subcommand_from help; and __fish_seen_subcommand_from explore' -l all -d 'Go on past a violation, and print the first of each kind and line'
 complete -c qdemo -n 'not __fish_seen_subcommand_from help; and __fish_seen_subcommand_from explore' -l no-symmetry -d 'Distinguish equal copies: no symmetry reduction'
 complete -c qdemo -n 'not __fish_seen_subcommand_from help; and __fish_seen_subcommand_from explore' -l most -x -d 'Give up when more than N states are visited [default: 1000000]'
 complete -c qdemo -n 'not __fish_seen_subcommand_from help; and __fish_seen_subcommand_from explore' -l random -x -d 'Make only N random interleavings'
