@@ -290,8 +290,8 @@ fn painted(
     format!(in alloc; "{begin}{}{end}\n{}", words.headline, words.details)
 }
 
-/// Makes the requested search and shows its progress. With `lines` it looks for lines that no interleaving comes
-/// to.
+/// Makes the requested search and shows its progress. With `lines` it looks for lines that no interleaving
+/// comes to.
 pub fn search_shown<R: Eprint + AllocGlobal>(
     rt: &R,
     run: &ExploreRun,

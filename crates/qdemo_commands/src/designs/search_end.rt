@@ -94,8 +94,8 @@ impl SearchEnd {
     }
 }
 
-/// Explores all interleavings or makes random ones. With `lines` it looks for lines that no interleaving comes
-/// to, if there is no violation.
+/// Explores all interleavings or makes random ones. With `lines` it looks for lines that no interleaving
+/// comes to, if there is no violation.
 pub fn search<W: Observer>(
     run: &ExploreRun,
     source: DesignSource<'_>,
