@@ -291,7 +291,7 @@ fn painted(
 }
 
 /// Makes the requested search and shows its progress. With `lines` it looks for lines that no interleaving
-/// comes to.
+/// reaches.
 pub fn search_shown<R: Eprint + AllocGlobal>(
     rt: &R,
     run: &ExploreRun,

@@ -18,7 +18,7 @@ const NOT_ALL: u8 = 4;
 /// The outcome of a search.
 #[derive(Drop)]
 pub enum SearchEnd {
-    /// It made every interleaving and found no violation. No interleaving comes to these lines, if it looked
+    /// It made every interleaving and found no violation. No interleaving reaches these lines, if it looked
     /// for them.
     Nothing(Summary, Option<UnreachedLines>),
     /// An interleaving has a violation.
@@ -95,7 +95,7 @@ impl SearchEnd {
 }
 
 /// Explores all interleavings or makes random ones. With `lines` it looks for lines that no interleaving
-/// comes to, if there is no violation.
+/// reaches, if there is no violation.
 pub fn search<W: Observer>(
     run: &ExploreRun,
     source: DesignSource<'_>,

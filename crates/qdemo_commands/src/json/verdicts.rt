@@ -55,7 +55,7 @@ pub fn nothing_verdict(
     Ok(verdict.into_value())
 }
 
-/// Returns the lines that no interleaving comes to.
+/// Returns the lines that no interleaving reaches.
 fn lines_of(alloc: Global, lines: &UnreachedLines) -> Result<Record, AllocError> {
     let mut record = Record::new(alloc);
     record.set("is_proved", lines.is_proved)?;

@@ -97,8 +97,8 @@ printed as rows of JSON, one on each line, and nothing is explored. Designs
 with the same rows are the same. States that differ only in which of equal
 copies did what count as one, unless --no-symmetry is given. With --all the
 search goes on past a violation: the next search leaves it out, until nothing
-is found. Without a violation the lines are printed that no interleaving comes
-to. docs/DESIGNS.md describes designs, and docs/EXPLORE.md has examples.
+is found. Without a violation the lines are printed that no interleaving reaches.
+docs/DESIGNS.md describes designs, and docs/EXPLORE.md has examples.
 'qdemo help script' describes calls.",
     "Example:
   $ qdemo explore designs/clients.design
