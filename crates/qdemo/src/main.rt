@@ -13,7 +13,9 @@ use qdemo_commands::colours::{Colours, Screen};
 use qdemo_commands::command::{Action, action_of};
 use qdemo_commands::completion::{end_failed, end_unwritten, end_with};
 use qdemo_commands::designs::run_explore;
+use qdemo_commands::follow::run_follow;
 use qdemo_commands::play::run_play;
+use qdemo_commands::run_design::run_design;
 use qdemo_commands::scripts::run_script;
 use serving::run_serve;
 use std::env::VarError;
@@ -38,6 +40,8 @@ fn main(rt: HostRuntime) -> ExitCode {
             Action::Play(run) => run_play(&rt, &run, rt.stdin().is_terminal()),
             Action::Chart(run) => run_chart(&rt, &run),
             Action::Explore(run) => run_explore(&rt, &run),
+            Action::Design(run) => run_design(&rt, &run),
+            Action::Follow(run) => run_follow(&rt, &run),
             Action::Serve(run) => Ok(run_serve(&rt, run, screen.errors)),
         },
         Err(error) => Err(end_without_action(&rt, &error)),

@@ -101,6 +101,36 @@ pub struct ExploreRun {
     pub screen: Screen,
 }
 
+/// A recorded run whose design is printed.
+#[derive(Drop)]
+pub struct DesignRun {
+    /// Its file; `None` for standard input.
+    pub file: Option<String>,
+    /// Whether the run has names, whatever its file is called.
+    pub names_in: bool,
+    pub screen: Screen,
+}
+
+/// Recorded runs that are followed along a design.
+#[derive(Drop)]
+pub struct FollowRun {
+    /// The file of the design.
+    pub design: String,
+    /// The files of the runs, at least one.
+    pub runs: Vec<String>,
+    /// Whether bytes, counts and priorities have to be equal.
+    pub exact: bool,
+    /// The only threads to follow; empty to follow all.
+    pub only: Vec<String>,
+    /// The words of the calls that are left out.
+    pub left_out: Vec<String>,
+    /// Whether the output is an object of JSON for each run.
+    pub json: bool,
+    /// Whether the runs have names, whatever their files are called.
+    pub names_in: bool,
+    pub screen: Screen,
+}
+
 /// A server and its clients to run.
 #[derive(Drop)]
 pub struct ServeRun {
@@ -135,6 +165,10 @@ pub enum Action {
     Chart(ChartRun),
     /// Explores a design.
     Explore(ExploreRun),
+    /// Prints the design of a recorded run.
+    Design(DesignRun),
+    /// Follows recorded runs along a design.
+    Follow(FollowRun),
     /// Runs a server and its clients.
     Serve(ServeRun),
 }
@@ -211,6 +245,44 @@ fn explore_of(alloc: Global, matches: &ArgMatches<'_>, screen: Screen) -> Run<Ex
     })
 }
 
+/// Returns the values of an argument that are separated by commas.
+fn list_of(alloc: Global, value: Option<&str>) -> Result<Vec<String>, AllocError> {
+    let mut list = Vec::new(alloc);
+    for word in value.unwrap_or("").split(',') {
+        if !word.is_empty() {
+            list.push(String::from_str(alloc, word)?)?;
+        }
+    }
+    Ok(list)
+}
+
+/// Returns the run whose design the arguments ask for.
+fn design_of(alloc: Global, matches: &ArgMatches<'_>, screen: Screen) -> Run<DesignRun> {
+    Ok(DesignRun {
+        file: file_of(alloc, matches.get_str("file"))?,
+        names_in: matches.get_flag("names-in"),
+        screen,
+    })
+}
+
+/// Returns the design and the runs that the arguments ask to follow.
+fn follow_of(alloc: Global, matches: &ArgMatches<'_>, screen: Screen) -> Run<FollowRun> {
+    let mut runs = Vec::new(alloc);
+    for run in matches.get_strs("run").unwrap_or(&[]) {
+        runs.push(String::from_str(alloc, run)?)?;
+    }
+    Ok(FollowRun {
+        design: String::from_str(alloc, matches.get_str("design").unwrap_or(""))?,
+        runs,
+        exact: matches.get_flag("exact"),
+        only: list_of(alloc, matches.get_str("only"))?,
+        left_out: list_of(alloc, matches.get_str("leave-out"))?,
+        json: matches.get_flag("json"),
+        names_in: matches.get_flag("names-in"),
+        screen,
+    })
+}
+
 /// Returns the demonstration that the arguments ask for. Each number has a default.
 fn serve_of(alloc: Global, matches: &ArgMatches<'_>) -> Run<ServeRun> {
     Ok(ServeRun {
@@ -236,6 +308,8 @@ fn action_in(alloc: Global, matches: &ArgMatches<'_>, screen: Screen) -> Run<Act
             screen,
         }),
         Some(("chart", chart)) => Action::Chart(chart_of(alloc, chart, screen)?),
+        Some(("design", design)) => Action::Design(design_of(alloc, design, screen)?),
+        Some(("follow", follow)) => Action::Follow(follow_of(alloc, follow, screen)?),
         Some(("explore", explore)) => Action::Explore(explore_of(alloc, explore, screen)?),
         Some((_, script)) => Action::Script(script_of(alloc, script, screen)?),
         None => Action::Script(ScriptRun::default()),

@@ -49,9 +49,11 @@ macro_rules! texts {
 }
 
 mod explore;
+mod follow;
 mod runs;
 mod script;
 
 pub use explore::EXPLORE;
+pub use follow::{DESIGN, FOLLOW};
 pub use runs::{CHART, CHECK, PLAY, SERVE};
 pub use script::SCRIPT;

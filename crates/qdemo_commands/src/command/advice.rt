@@ -9,7 +9,9 @@ use std::alloc::{AllocError, Global};
 use std::fmt;
 
 /// The names of the commands.
-const COMMANDS: [&str; 6] = ["script", "check", "play", "chart", "explore", "serve"];
+const COMMANDS: [&str; 8] = [
+    "script", "check", "play", "chart", "explore", "design", "follow", "serve",
+];
 
 /// Words that aren't commands, each with the command that is meant.
 const MEANT: [(&str, &str); 6] = [
@@ -62,7 +64,9 @@ impl fmt::Display for Advice<'_> {
             Advice::WriteOutput(file) => write!(f, "write '-o {file}'"),
             Advice::Meant(command) => write!(f, "did you mean '{command}'?"),
             Advice::Commands => {
-                f.write_str("the commands are script, check, play, chart, explore and serve")
+                f.write_str(
+                    "the commands are script, check, play, chart, explore, design, follow and serve",
+                )
             }
             Advice::OneFile => f.write_str("one file; 'qdemo check' reads several"),
             Advice::Update => f.write_str("--update writes the traces and verdicts"),
@@ -176,7 +180,7 @@ fn argument_advice<'a>(command: &str, word: &'a str) -> Option<Advice<'a>> {
         "check" if word == "--write" => Some(Advice::Update),
         "chart" if word == "--svg" => Some(Advice::Svg),
         "chart" if !is_option => Some(Advice::WriteOutput(word)),
-        "script" | "explore" if !is_option => Some(Advice::OneFile),
+        "script" | "explore" | "design" if !is_option => Some(Advice::OneFile),
         _ => None,
     }
 }

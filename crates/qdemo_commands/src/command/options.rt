@@ -1,6 +1,8 @@
 //! Unproved: words and layout. Builds the command line: each subcommand with its options and help texts.
 
-use crate::texts::{ABOUT, CHART, CHECK, EXAMPLE, EXPLORE, PLAY, SCRIPT, SERVE, Texts, VERSION};
+use crate::texts::{
+    ABOUT, CHART, CHECK, DESIGN, EXAMPLE, EXPLORE, FOLLOW, PLAY, SCRIPT, SERVE, Texts, VERSION,
+};
 use clap::builder::ValueParser;
 use clap::{Arg, ArgAction, Command, value_parser};
 use std::alloc::{AllocError, Global};
@@ -212,6 +214,42 @@ fn explore_command<'a>(alloc: Global) -> Build<'a> {
         .arg(seed)
 }
 
+/// Returns the subcommand `design`.
+fn design_command<'a>(alloc: Global) -> Build<'a> {
+    let help = "The file of the run; standard input if missing or -";
+    let command = subcommand(alloc, "design", &DESIGN).arg(file(alloc, help))?;
+    with_flags(alloc, command, &[NAMES_IN])
+}
+
+/// Returns the subcommand `follow`.
+fn follow_command<'a>(alloc: Global) -> Build<'a> {
+    let design = Arg::new(alloc, "design")
+        .value_name("DESIGN")
+        .help("The design's file")
+        .required(true);
+    let runs = Arg::new(alloc, "run")
+        .value_name("RUN")
+        .num_args(1..)
+        .action(ArgAction::Append)
+        .help("Recorded runs: scripts, plain or with names")
+        .required(true);
+    let flags = [
+        (
+            "exact",
+            "Bytes, counts and priorities have to be equal",
+            "",
+        ),
+        ("json", "Print an object of JSON for each run", ""),
+        NAMES_IN,
+    ];
+    let only = "Follow only these threads of the runs, with commas between them";
+    let left_out = "Leave out these calls, as state,setprio";
+    let command = subcommand(alloc, "follow", &FOLLOW).arg(design)?.arg(runs)?;
+    with_flags(alloc, command, &flags)?
+        .arg(option(alloc, "only", "THREADS", only))?
+        .arg(option(alloc, "leave-out", "CALLS", left_out))
+}
+
 /// Returns the subcommand `play`.
 fn play_command<'a>(alloc: Global) -> Build<'a> {
     let command = subcommand(alloc, "play", &PLAY).arg(file(alloc, "A script to begin with"))?;
@@ -227,6 +265,8 @@ pub(super) fn command_named<'a>(alloc: Global, name: &str) -> Build<'a> {
         "play" => play_command(alloc)?.bin_name("qdemo play"),
         "chart" => chart_command(alloc)?.bin_name("qdemo chart"),
         "explore" => explore_command(alloc)?.bin_name("qdemo explore"),
+        "design" => design_command(alloc)?.bin_name("qdemo design"),
+        "follow" => follow_command(alloc)?.bin_name("qdemo follow"),
         "serve" => serve_command(alloc)?.bin_name("qdemo serve"),
         _ => command(alloc),
     }
@@ -237,7 +277,7 @@ fn with<'a>(command: Command<'a>, subcommand: Build<'a>) -> Build<'a> {
     command.subcommand(subcommand?)
 }
 
-/// Returns the whole command line, with its six subcommands.
+/// Returns the whole command line, with its eight subcommands.
 pub(super) fn command<'a>(alloc: Global) -> Build<'a> {
     let command = Command::new(alloc, "qdemo")
         .version(VERSION)
@@ -249,5 +289,7 @@ pub(super) fn command<'a>(alloc: Global) -> Build<'a> {
     let command = with(command, play_command(alloc))?;
     let command = with(command, chart_command(alloc))?;
     let command = with(command, explore_command(alloc))?;
+    let command = with(command, design_command(alloc))?;
+    let command = with(command, follow_command(alloc))?;
     with(command, serve_command(alloc))
 }
