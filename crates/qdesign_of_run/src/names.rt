@@ -245,7 +245,8 @@ impl Names {
             seat,
             name: String::from_str(self.alloc, name)?,
             last,
-        })
+        })?;
+        Ok(())
     }
 
     /// Returns the name that the thread at an index gives to what the call at an index made; `None` if it

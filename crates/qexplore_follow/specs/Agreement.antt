@@ -144,8 +144,8 @@ module _ (m : Renumbering) where
   -- a call of the run agrees with an event of the design: its thread, the call, and what it completed
   abbrev pub agrees : RunEvent → Event → Bool
   agrees r e =
-      (seat_of e.thread == r.seat) && same_call e.call r.call
-      && same_completions e.completions r.completions.items
+      (seat_of e.thread == r.seat)
+      && (same_call e.call r.call && same_completions e.completions r.completions.items)
 
   -- likewise, if the run has this call
   abbrev pub agrees_if : Option RunEvent → Event → Bool

@@ -1,5 +1,5 @@
 -- Recorded runs that follow a design.
-use Rattle.std.specs.Prelude.{◌≡◌, ◌∷◌, ℕ, false, true, length, List, [], slice_get, Some}
+use Rattle.std.specs.Prelude.{◌≡◌, ◌+◌, ◌∷◌, ℕ, false, true, length, List, [], slice_get, None, Option, Some}
 use Rattle.qmodel.specs.Trace.{Event, Trace}
 use Rattle.qexplore_symmetry.specs.System.{IsInterleaving, IsMove}
 use Rattle.qexplore_symmetry.specs.Equivariant.{finding_at}
@@ -9,6 +9,7 @@ use Rattle.qexplore.specs.Runs.{design_of, end_of, IsEndOf}
 use Rattle.qexplore_follow.specs.declared.renumbering.Renumbering.{Renumbering}
 use Rattle.qexplore_follow.specs.declared.run_event.RunEvent.{RunEvent}
 use Rattle.qexplore_follow.specs.declared.following.Followed.{Followed}
+use Rattle.qexplore_follow.specs.declared.following.Instead.{Instead}
 use Rattle.qexplore_follow.specs.declared.following.Outcome.{Outcome}
 use Rattle.qexplore_follow.specs.declared.following.Outcome.TheVariants as outcome
 use Rattle.qexplore_follow.specs.Agreement.{agrees_if}
@@ -43,6 +44,11 @@ module _ (d : Programs) (m : Renumbering) (run : List RunEvent) where
     pub ends : IsEndOf d s past
     pub count : length past ≡ n
     pub agree : Agree m run past
+
+  -- the effect of a step along a run: the design makes the next call, or no transition agrees with it
+  abbrev pub IsStep : ℕ → SearchState → Option Instead → Type 0
+  IsStep n s None = IsAt (n + 1) s
+  IsStep n s (Some instead) = Stops n
 
   -- What is told of a run. `All`: all its calls are an interleaving of the design. `Deviates`: the first calls
   -- are, and the next one isn't. `Violates`: the first calls are, and the program of the thread at this index

@@ -1,7 +1,8 @@
 //! Follows the calls of a recorded run along a design.
 
-ghost use Rattle.std.specs.Prelude.{◌≡◌, ◌+◌, slice_get, Some, IfOk, MatchOption};
-ghost use Rattle.qexplore_follow.specs.Following.{IsAt, IsTold, Stops};
+ghost use Rattle.std.specs.Prelude.{◌≡◌, ℕ, List, slice_get, Some, IfOk};
+ghost use Rattle.qexplore_follow.specs.declared.run_event.RunEvent.{RunEvent as RunEventValue};
+ghost use Rattle.qexplore_follow.specs.Following.{IsAt, IsStep, IsTold};
 
 use crate::renumbering::Renumbering;
 use crate::run_event::RunEvent;
@@ -81,7 +82,11 @@ fn step(
     design: &Design,
     renumbering: &Renumbering,
     event: &RunEvent,
-) -> Result<Option<Instead>, AllocError> {
+) -> Result<Option<Instead>, AllocError>
+    ensures { (run : List RunEventValue) (n : ℕ) → slice_get run n ≡ Some event.now
+        → IsAt design.now renumbering.now run n state.old
+        → IfOk result (λ instead. IsStep design.now renumbering.now run n state.new instead) }
+{
     let seat = event.seat;
     if !state.can_go(design, seat) {
         return Ok(Some(Instead::Nothing));

@@ -202,7 +202,8 @@ impl Matcher<'_> {
         matched
             .renumbering
             .calls
-            .push((at as u64).saturating_add(1))
+            .push((at as u64).saturating_add(1))?;
+        Ok(())
     }
 
     /// Adds the calls that are matched, and counts the others.
@@ -264,7 +265,8 @@ fn count_kind(counts: &mut Vec<(CallKind, usize)>, kind: CallKind) -> Result<(),
             return Ok(());
         }
     }
-    counts.push((kind, 1))
+    counts.push((kind, 1))?;
+    Ok(())
 }
 
 /// Counts a call of a thread that is left out.
