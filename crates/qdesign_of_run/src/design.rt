@@ -287,6 +287,7 @@ pub fn design_of(alloc: Global, run: &RecordedRun, file: &str) -> Result<RunDesi
             push_section(&mut out, source, seat, &mut told.unsaid)?;
         }
     }
-    told.text = out.text;
+    let DesignWriter { text, .. } = out;
+    told.text = text;
     Ok(told)
 }
