@@ -121,8 +121,8 @@ impl DesignWriter {
     }
 }
 
-/// Returns the priority of a thread: the one that its first `setprio` of itself sets before any other call, or
-/// the one of the run.
+/// Returns the priority of a thread. A `setprio` of itself before all its other calls sets it; otherwise it is
+/// the priority in the run.
 fn level(run: &RecordedRun, seat: usize) -> u8 {
     let Some(thread) = run.threads.get(seat) else {
         return 1;

@@ -6,7 +6,7 @@ use qmodel::kind::CallKind;
 use qqueue::item::What;
 use std::alloc::{AllocError, Global};
 
-/// The names of the threads that a front has besides those of the program.
+/// The names of a front's own threads.
 const HIDDEN: [&str; 3] = ["clock", "timers", "system"];
 
 /// The threads and calls that the design has.
@@ -84,7 +84,7 @@ impl Kept {
         Ok(kept)
     }
 
-    /// Notes how calls ended, and the last uses of what they made.
+    /// Notes how calls ended, and when the things that they made were last used.
     fn note_all(&mut self, run: &RecordedRun) {
         for at in 0..run.trace.len() {
             let call = run.trace.call(at);

@@ -1,4 +1,4 @@
-//! Chooses the names of a design for what the calls of a run made and received.
+//! Chooses the names of a design for the things that the calls of a run made and received.
 
 use crate::kept::Kept;
 use crate::recorded::{RecordedRun, index_of};
@@ -41,7 +41,7 @@ pub struct Names {
     alloc: Global,
     /// The names of the threads, by thread index.
     threads: Vec<String>,
-    /// The name of what a call made, by the index of the call.
+    /// The name of the thing that a call made, by the index of the call.
     made: Vec<Option<Made>>,
     in_use: Vec<InUse>,
     /// The next receive of the thread that made a call, by the index of the call.
@@ -122,7 +122,7 @@ impl Names {
         self.threads.get(seat).map_or("nobody", |name| name.as_str())
     }
 
-    /// Adds the name of what the call at an index made or received.
+    /// Adds the name of the thing that the call at an index made or received.
     fn add(&mut self, run: &RecordedRun, kept: &Kept, at: usize) -> Written {
         let (Some(seat), Some(end)) = (run.maker(at), kept.end(run, at)) else {
             return Ok(());
@@ -249,8 +249,8 @@ impl Names {
         Ok(())
     }
 
-    /// Returns the name that the thread at an index gives to what the call at an index made; `None` if it
-    /// made nothing, or another thread did.
+    /// Returns the name of the thing that a call of the thread at an index made. `None` if the call made
+    /// nothing, or another thread owns the name.
     pub fn own(&self, seat: usize, at: usize) -> Option<&str> {
         let made = self.made.get(at)?.as_ref()?;
         if made.seat == seat {
@@ -266,7 +266,7 @@ impl Names {
         made.held.as_ref().map(|name| name.as_str())
     }
 
-    /// Adds the name for what the call at index `made` made, as the thread at an index says it in an event.
+    /// Adds the name for the thing that the call at index `made` made, as a thread writes it in an event.
     /// Returns whether it has a name.
     pub fn push_use(
         &self,

@@ -36,7 +36,7 @@ pub struct Unsaid {
     pub why: String,
 }
 
-/// What the parts of a design are made from.
+/// The source of the parts of a design.
 #[derive(Clone, Copy)]
 pub struct PartSource<'a> {
     pub alloc: Global,
@@ -124,7 +124,7 @@ impl PartSource<'_> {
         Ok(())
     }
 
-    /// Adds `NAME =` for what the call makes or receives.
+    /// Adds `NAME =` for the thing that the call makes or receives.
     fn push_binding(&self, line: &mut String, seat: usize, at: usize, call: &Call) -> Written {
         match call.kind() {
             CallKind::Receive | CallKind::ReceivePulse => write!(line, "{MESSAGE} = "),

@@ -1,4 +1,4 @@
-//! The rounds of a server: what it does after each receive.
+//! The rounds of a server: its calls after each receive.
 
 use crate::parts::Part;
 use crate::words::{front, push_digits};
@@ -73,7 +73,7 @@ fn are_same(one: &[String], other: &[String]) -> bool {
             .all(|(one, other)| one.as_str() == other.as_str())
 }
 
-/// Returns the texts of the parts behind a receive, with the line that keeps its message.
+/// Returns the texts of the parts after a receive, with the line that keeps its message.
 fn texts_behind(alloc: Global, receive: &Part, parts: &[Part]) -> Result<Vec<String>, AllocError> {
     let mut texts = Vec::new(alloc);
     if !receive.keeps.is_empty() {
@@ -112,8 +112,8 @@ fn rank(branch: &Branch) -> usize {
 }
 
 impl Rounds {
-    /// Returns the rounds of a thread with these parts. `None` if it is no server, or its answers don't depend
-    /// on what it receives.
+    /// Returns the rounds of a thread with these parts. `None` if it isn't a server, or if equal
+    /// receives lead to different calls.
     pub fn of(alloc: Global, parts: &[Part], most: usize) -> Result<Option<Rounds>, AllocError> {
         let from = receive_from(parts, 0);
         let Some(first) = parts.get(from) else {
@@ -165,7 +165,7 @@ impl Rounds {
     }
 }
 
-/// Returns the branch of a receive and the parts behind it. `ends` is whether the thread made no call after
+/// Returns the branch of a receive and the parts after it. `ends` is whether the thread made no call after
 /// them.
 fn branch_of(
     alloc: Global,

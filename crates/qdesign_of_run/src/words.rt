@@ -10,7 +10,7 @@ use std::str;
 /// The result of adding words to a text.
 pub type Written = Result<(), AllocError>;
 
-/// The most zeros that a size in brackets stands for.
+/// The most zeros that are written as a size in brackets.
 const MOST_ZEROS: usize = 4096;
 
 /// Returns whether bytes are a text that needs no escape in quotes.
@@ -23,7 +23,7 @@ fn is_plain_text(bytes: &[u8]) -> bool {
     !bytes.is_empty()
 }
 
-/// Returns whether bytes are zeros that a size in brackets stands for.
+/// Returns whether bytes are zeros that can be written as a size in brackets.
 fn are_zeros(bytes: &[u8]) -> bool {
     for byte in bytes {
         if *byte != 0 {
@@ -33,7 +33,7 @@ fn are_zeros(bytes: &[u8]) -> bool {
     !bytes.is_empty() && bytes.len() <= MOST_ZEROS
 }
 
-/// Adds bytes as a design has them: a text in quotes, `[N]` for zeros, pairs of digits, or `-`.
+/// Adds bytes in the notation of designs: a text in quotes, `[N]` for zeros, pairs of digits, or `-`.
 pub fn push_bytes(out: &mut String, bytes: &[u8]) -> Written {
     if are_zeros(bytes) {
         let count = bytes.len();

@@ -1,4 +1,4 @@
-//! Compares the calls and completions of a recorded run with those of a design.
+//! Compares the calls and completions of a recorded run with a design.
 
 ghost use Rattle.std.specs.Prelude.{◌≡◌, take};
 ghost use Rattle.qexplore_programs.specs.Completions.{errno_place};

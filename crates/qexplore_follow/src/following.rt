@@ -13,7 +13,7 @@ use qkernel_state::completions::Completions;
 use qmodel::call::{Call, Completion};
 use std::alloc::{AllocError, Global};
 
-/// What a design makes in place of a call of the run.
+/// The behaviour of a design in place of a call of the run.
 #[derive(Drop)]
 pub enum Instead {
     /// Its thread makes no call: it is blocked, it waits for a name or a thread, or its program has ended.

@@ -1,12 +1,12 @@
 //! Follows a recorded run along a design: are the run's calls an interleaving of the design's programs?
 //!
 //! `follow` makes the calls of a run again, each as the next call of its thread in the design, and compares
-//! call and completions. The ids of the run are others than those of the design, and its bytes may be longer
-//! (`Renumbering`). If it tells that a run follows the design, the calls of the run are an interleaving of
-//! the design, so everything that `explore` proves of a design holds of them. If it tells a deviation, the
-//! design has no transition that agrees with the call.
+//! calls and completions. The run has other ids than the design, and its bytes may be longer (`Renumbering`).
+//! If the outcome is `All`, the calls of the run are an interleaving of the design. Then the claims that
+//! `explore` proves of the design hold of them. If it is `Deviates`, no transition of the design agrees with
+//! the call.
 //!
-//! Unproved, in `recorded`: which threads and calls of a recorded run are matched with those of the design.
+//! Unproved, in `recorded`: which threads and calls of a recorded run are matched with the design.
 #![tactic(auto)]
 
 pub mod agreement;

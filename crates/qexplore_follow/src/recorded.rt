@@ -1,4 +1,4 @@
-//! Unproved: which threads and calls of a recorded run are matched with those of a design.
+//! Unproved: which threads and calls of a recorded run are matched with a design.
 
 use crate::renumbering::Renumbering;
 use crate::run_event::RunEvent;
@@ -9,7 +9,7 @@ use qmodel::call::Completion;
 use qmodel::kind::CallKind;
 use std::alloc::{AllocError, Global};
 
-/// What to match of a run.
+/// The threads and calls of a run to match.
 #[derive(Clone, Copy)]
 pub struct MatchChoice<'a> {
     /// The only threads to match, by name; empty to match all.
@@ -65,7 +65,7 @@ struct Matcher<'a> {
     is_matched: Vec<bool>,
 }
 
-/// Returns whether a name of a design is that of a run. A design from a run has `_` for a point.
+/// Returns whether a name of a design equals a name of a run. A design from a run has `_` for a point.
 fn is_named(designed: &str, recorded: &str) -> bool {
     designed.len() == recorded.len()
         && designed
@@ -119,7 +119,7 @@ impl Matcher<'_> {
             .position(|known| is_named(known.name.as_str(), thread.name.as_str()))
     }
 
-    /// Finds the threads of the design for those of the run.
+    /// Finds the design's thread for each thread of the run.
     fn find_seats(&mut self) -> Result<(), AllocError> {
         for thread in &self.run.threads {
             let seat = self.seat_named(thread);

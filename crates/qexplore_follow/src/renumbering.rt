@@ -1,4 +1,4 @@
-//! The numbers of a recorded run, which stand for those of a design.
+//! The numbers of a recorded run, and the numbers of a design to which they correspond.
 
 ghost use Rattle.std.specs.Prelude.{◌≡◌, ◌==◌, ◌&&◌};
 ghost use Rattle.qexplore_follow.specs.Agreement.{are_paired, begins, fits, is_call, is_level, is_process};
