@@ -7,6 +7,8 @@ use Rattle.qmodel.specs.declared.call.Call.{Call}
 use Rattle.qmodel.specs.declared.call.Completion.{Completion}
 use Rattle.qrules.specs.Facts.{is_blocked}
 use Rattle.qexplore_symmetry.specs.System.{IsMove}
+use Rattle.qexplore_symmetry.specs.Equivariant.{finding_at}
+use Rattle.qexplore_programs.specs.declared.machine.local_state.Finding.{Finding}
 use Rattle.qexplore_programs.specs.declared.design.Design.{Design as Programs}
 use Rattle.qexplore_programs.specs.Machine.{next_call}
 use Rattle.qexplore_programs.specs.Programs.{seat_of, thread_at}
@@ -88,6 +90,12 @@ module _ (d : Programs) (m : Renumbering) (run : List RunEvent) (n : ℕ) (r : R
     stops_by_call c next other = stops (λ e move. by_test (seat_of e.thread == r.seat) _ (λ test.
         let call : e.call ≡ c = call_is d is.past e move r.seat c (eqb-eq _ _ test) next in
         not_first _ _ (ap (λ c. same_call m c r.call) call ∙ other)))
+
+    -- a thread's program has a violation
+    pub violates_there : (seat : ℕ) (f : Finding) → finding_at s.locals.threads.items seat ≡ Some f
+        → (past : Trace) × IsMatched d m run n past × (finding_at (end_of d past).locals seat ≡ Some f)
+    violates_there seat f found =
+        (is.past, matched, ap (λ w. finding_at w seat) (sym is.ends.locals) ∙ found)
 
     -- the thread's call has other completions
     pub stops_by_end : (new : SearchState) (X : List Completion) → MovesWith d s r.seat X new

@@ -1,8 +1,8 @@
 //! Follows the calls of a recorded run along a design.
 
-ghost use Rattle.std.specs.Prelude.{◌≡◌, ℕ, List, slice_get, Some, IfOk};
-ghost use Rattle.qexplore_follow.specs.declared.run_event.RunEvent.{RunEvent as RunEventValue};
-ghost use Rattle.qexplore_follow.specs.Following.{IsAt, IsStep, IsTold};
+ghost use Rattle.std.specs.Prelude.{◌≡◌, IfOk};
+ghost use Rattle.qexplore_follow.specs.Agreement.{same_completions};
+ghost use Rattle.qexplore_follow.specs.Following.{IsAt, IsStep, IsTold, IsToldOf};
 
 use crate::renumbering::Renumbering;
 use crate::run_event::RunEvent;
@@ -35,6 +35,16 @@ pub enum Outcome {
     Violates(usize, Finding),
 }
 
+/// The end of a walk along a run.
+#[derive(Drop)]
+struct WalkEnd {
+    /// The number of calls of the run that follow the design.
+    count: usize,
+    outcome: Outcome,
+    /// As in `Followed`.
+    line: u64,
+}
+
 /// A walk along a run.
 #[derive(Drop)]
 pub struct Followed {
@@ -48,7 +58,7 @@ pub struct Followed {
     pub state: SearchState,
 }
 
-/// Returns the completions of a list that ends with it.
+/// Returns the completions of a list, which is empty afterwards.
 fn moved(alloc: Global, completions: &mut Completions) -> Result<Vec<Completion>, AllocError> {
     let mut all = Vec::new(alloc);
     for _ in 0..completions.as_slice().len() {
@@ -74,37 +84,96 @@ fn line_at(state: &SearchState, design: &Design, seat: usize) -> u64 {
     }
 }
 
-/// Makes the next call of a run in a design. Returns what the design makes instead, or `None` if the call and
-/// its completions agree. Error if memory or the numbers of calls run out.
+/// Returns the line at which the thread of the call at an index of the run is.
+fn line_of(state: &SearchState, design: &Design, run: &[RunEvent], at: usize) -> u64 {
+    match run.get(at) {
+        Some(event) => line_at(state, design, event.seat),
+        None => 0,
+    }
+}
+
+/// Returns whether the completions of a call agree with the event of the run.
+fn do_agree(renumbering: &Renumbering, completions: &Completions, event: &RunEvent) -> bool
+    ensures { result
+        ≡ same_completions renumbering.now completions.now.items event.now.completions.items }
+{
+    renumbering.are_same(completions.as_slice(), event.completions.as_slice())
+}
+
+/// Makes the call of a run at an index as the next call of its thread in the design. Returns the behaviour of
+/// the design instead, or `None` if the call and its completions agree. Error if memory or the numbers of
+/// calls run out.
 fn step(
     alloc: Global,
     state: &mut SearchState,
     design: &Design,
     renumbering: &Renumbering,
-    event: &RunEvent,
+    run: &[RunEvent],
+    at: usize,
 ) -> Result<Option<Instead>, AllocError>
-    ensures { (run : List RunEventValue) (n : ℕ) → slice_get run n ≡ Some event.now
-        → IsAt design.now renumbering.now run n state.old
-        → IfOk result (λ instead. IsStep design.now renumbering.now run n state.new instead) }
+    ensures { IsAt design.now renumbering.now run.now at state.old
+        → IfOk result (IsStep design.now renumbering.now run.now at state.new) }
 {
-    let seat = event.seat;
-    if !state.can_go(design, seat) {
+    let Some(event) = run.get(at) else {
+        return Err(AllocError);
+    };
+    if !state.can_go(design, event.seat) {
         return Ok(Some(Instead::Nothing));
     }
-    let Some(call) = state.next(alloc, design, seat)? else {
-        return Ok(Some(Instead::Nothing));
+    let Some(call) = state.next(alloc, design, event.seat)? else {
+        return Err(AllocError);
     };
     if !renumbering.is_same_call(&call, &event.call) {
         return Ok(Some(Instead::Call(call)));
     }
     let mut completions = no_completions(alloc);
-    if !state.go_on(alloc, design, seat, &mut completions)? {
+    if !state.go_on(alloc, design, event.seat, &mut completions)? {
         return Err(AllocError);
     }
-    if renumbering.are_same(completions.as_slice(), event.completions.as_slice()) {
+    if do_agree(renumbering, &completions, event) {
         return Ok(None);
     }
     Ok(Some(Instead::Completions(moved(alloc, &mut completions)?)))
+}
+
+/// Makes the calls of a run, each as the next call of its thread in the design, until one doesn't agree or a
+/// program has a violation.
+fn walk(
+    alloc: Global,
+    state: &mut SearchState,
+    design: &Design,
+    renumbering: &Renumbering,
+    run: &[RunEvent],
+) -> Result<WalkEnd, AllocError>
+    ensures { IsAt design.now renumbering.now run.now 0 state.old
+        → IfOk result (λ end. IsToldOf design.now renumbering.now run.now end.count end.outcome) }
+{
+    for at in 0..run.len() {
+        if let Some((seat, finding)) = state.locals.finding() {
+            return Ok(WalkEnd {
+                count: at,
+                outcome: Outcome::Violates(seat, finding),
+                line: 0,
+            });
+        }
+        let line = line_of(state, design, run, at);
+        if let Some(instead) = step(alloc, state, design, renumbering, run, at)? {
+            return Ok(WalkEnd {
+                count: at,
+                outcome: Outcome::Deviates(instead),
+                line,
+            });
+        }
+    }
+    let outcome = match state.locals.finding() {
+        Some((seat, finding)) => Outcome::Violates(seat, finding),
+        None => Outcome::All,
+    };
+    Ok(WalkEnd {
+        count: run.len(),
+        outcome,
+        line: 0,
+    })
 }
 
 /// Makes the calls of a run, each as the next call of its thread in the design, until one doesn't agree or a
@@ -118,34 +187,12 @@ pub fn follow(
     ensures { IfOk result (IsTold design.now renumbering.now run.now) }
 {
     let mut state = SearchState::new(alloc, design)?;
-    let mut count = 0usize;
-    let mut line = 0u64;
-    for event in run {
-        if let Some((seat, finding)) = state.locals.finding() {
-            let outcome = Outcome::Violates(seat, finding);
-            return Ok(Followed {
-                count,
-                outcome,
-                line,
-                state,
-            });
-        }
-        line = line_at(&state, design, event.seat);
-        if let Some(instead) = step(alloc, &mut state, design, renumbering, event)? {
-            let outcome = Outcome::Deviates(instead);
-            return Ok(Followed {
-                count,
-                outcome,
-                line,
-                state,
-            });
-        }
-        count += 1;
-    }
-    let outcome = match state.locals.finding() {
-        Some((seat, finding)) => Outcome::Violates(seat, finding),
-        None => Outcome::All,
-    };
+    let end = walk(alloc, &mut state, design, renumbering, run)?;
+    let WalkEnd {
+        count,
+        outcome,
+        line,
+    } = end;
     Ok(Followed {
         count,
         outcome,
