@@ -146,7 +146,7 @@ fn walk(
     run: &[RunEvent],
 ) -> Result<WalkEnd, AllocError>
     ensures { IsAt design.now renumbering.now run.now 0 state.old
-        → IfOk result (λ end. IsToldOf design.now renumbering.now run.now end.count end.outcome) }
+        → IfOk result (λ walked. IsToldOf design.now renumbering.now run.now walked.count walked.outcome) }
 {
     for at in 0..run.len() {
         if let Some((seat, finding)) = state.locals.finding() {
