@@ -121,8 +121,8 @@ impl DesignWriter {
     }
 }
 
-/// Returns the priority of a thread. A `setprio` of itself before all its other calls sets it; otherwise it is
-/// the priority in the run.
+/// Returns the priority of a thread. A `setprio` of itself before all its other calls sets it; otherwise it
+/// is the priority in the run.
 fn level(run: &RecordedRun, seat: usize) -> u8 {
     let Some(thread) = run.threads.get(seat) else {
         return 1;
@@ -239,7 +239,13 @@ fn left_out(alloc: Global, run: &RecordedRun, kept: &Kept) -> Result<Vec<String>
 }
 
 /// Adds the comments at the top of a design.
-fn push_head(out: &mut DesignWriter, file: &str, run: &RecordedRun, told: &RunDesign, most: usize) -> Written {
+fn push_head(
+    out: &mut DesignWriter,
+    file: &str,
+    run: &RecordedRun,
+    told: &RunDesign,
+    most: usize,
+) -> Written {
     let alloc = out.alloc;
     let calls = run.trace.len();
     let line = format!(in alloc; "# A design of the recorded run {file}, which has {calls} calls.")?;
@@ -253,7 +259,9 @@ fn push_head(out: &mut DesignWriter, file: &str, run: &RecordedRun, told: &RunDe
         let line = format!(in alloc; "# Left out: {count} calls `state` and `setprio`.")?;
         out.push(line.as_str())?;
     }
-    let line = format!(in alloc; "# Guessed: loops, branches, and that the first {most} bytes of a message matter.")?;
+    let line = format!(in alloc;
+        "# Guessed: loops, branches, and that the first {most} bytes of a message matter."
+    )?;
     out.push(line.as_str())
 }
 

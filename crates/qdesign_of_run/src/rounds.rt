@@ -99,8 +99,8 @@ fn add_branch(branches: &mut Vec<Branch>, branch: Branch) -> Result<bool, AllocE
     Ok(branches.len() <= MOST_BRANCHES)
 }
 
-/// Returns the order of branches in a program: failures first, then pulses, and then messages with the longest
-/// bytes first.
+/// Returns the order of branches in a program: failures first, then pulses, and then messages with the
+/// longest bytes first.
 fn rank(branch: &Branch) -> usize {
     if branch.is_failure {
         return 0;

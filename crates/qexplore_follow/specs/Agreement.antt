@@ -77,7 +77,8 @@ module _ (m : Renumbering) where
   -- two calls agree: kinds and numbers are the same, and bytes and buffers begin alike
   abbrev pub same_call : Call → Call → Bool
   same_call d r =
-      bytes_eq (script_word (kind_of d)) (script_word (kind_of r)) && same_operands (operands_of d) (operands_of r)
+      bytes_eq (script_word (kind_of d)) (script_word (kind_of r))
+      && same_operands (operands_of d) (operands_of r)
       && begins (bytes_of d) (bytes_of r) && begins (buffer_of d) (buffer_of r)
 
   -- ---- completions

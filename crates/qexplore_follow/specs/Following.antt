@@ -50,15 +50,15 @@ module _ (d : Programs) (m : Renumbering) (run : List RunEvent) where
   IsStep n s None = IsAt (n + 1) s
   IsStep n s (Some instead) = Stops n
 
-  -- What is told of a run. `All`: all its calls are an interleaving of the design. `Deviates`: the first calls
-  -- are, and the next one isn't. `Violates`: the first calls are, and the program of the thread at this index
-  -- has a violation after them.
+  -- The claim of an outcome. `All`: all calls of the run are an interleaving of the design. `Deviates`: the
+  -- first calls are, and the next one isn't. `Violates`: the first calls are, and the program of the thread
+  -- at this index has a violation after them.
   abbrev pub IsToldOf : ℕ → Outcome → Type 0
   IsToldOf n outcome.All = IsFollowed n × (n ≡ length run)
   IsToldOf n (outcome.Deviates instead) = Stops n
   IsToldOf n (outcome.Violates seat finding) =
       (past : Trace) × IsMatched n past × (finding_at (end_of d past).locals seat ≡ Some finding)
 
-  -- what a walk tells of a run
+  -- the claim of a walk along a run
   abbrev pub IsTold : Followed → Type 0
   IsTold f = IsToldOf f.count f.outcome

@@ -2,9 +2,9 @@
 
 ghost use Rattle.std.specs.Prelude.{◌≡◌, take};
 ghost use Rattle.qexplore_programs.specs.Completions.{errno_place};
-ghost use Rattle.qexplore_follow.specs.Agreement.{copied_by, has_same, same_buffer, same_call, same_completion};
-ghost use Rattle.qexplore_follow.specs.Agreement.{same_completions, same_info, same_mark, same_operands};
-ghost use Rattle.qexplore_follow.specs.Agreement.{same_state, same_what};
+ghost use Rattle.qexplore_follow.specs.Agreement.{copied_by, has_same, same_buffer, same_call};
+ghost use Rattle.qexplore_follow.specs.Agreement.{same_completion, same_completions, same_info, same_mark};
+ghost use Rattle.qexplore_follow.specs.Agreement.{same_operands, same_state, same_what};
 
 use crate::renumbering::Renumbering;
 use qbase::errno::Errno;

@@ -15,8 +15,8 @@ pub struct Renumbering {
     pub threads: Vec<(u8, u8)>,
     /// The processes: each number in the design, and in the run.
     pub processes: Vec<(u8, u8)>,
-    /// Whether bytes, counts and priorities have to be equal. If not, the design's bytes may be a beginning of
-    /// the run's.
+    /// Whether bytes, counts and priorities have to be equal. If not, the design's bytes may be a beginning
+    /// of the run's.
     pub exact: bool,
 }
 
