@@ -1,5 +1,5 @@
 -- The steps of a walk along a recorded run.
-use Rattle.std.proofs.Common.{◌∙◌, ◌+◌, ◌∷◌, ◌==◌, ◌≡◌, ℕ, List, ap, arith, refl, subst, sym, eqb-eq, eq-eqb}
+use Rattle.std.proofs.Common.{◌∙◌, ◌+◌, ◌∷◌, ◌==◌, ◌≡◌, ℕ, List, ap, arith, eq-eqb, eqb-eq, refl, sym, true≢false}
 use Rattle.std.specs.Prelude.{◌&&◌, Bool, true, false, is_some, length, not, slice_get, Option, None, Some}
 use Rattle.std.proofs.lemmas.Option.{same_Some}
 use Rattle.qmodel.specs.Trace.{Event, Trace}
@@ -82,7 +82,7 @@ module _ (d : Programs) (m : Renumbering) (run : List RunEvent) (n : ℕ) (r : R
         let same : seat_of e.thread ≡ r.seat = eqb-eq _ _ test in
         let moves : can_move d (end_of d is.past) r.seat ≡ true =
         ap (can_move d (end_of d is.past)) (sym same) ∙ may_move d is.past e move in
-        cc))
+        absurd (true≢false (sym moves ∙ no))))
 
     -- the thread has another next call
     pub stops_by_call : (c : Call) → Some c ≡ next_call d (end_of d is.past).facts (end_of d is.past).locals r.seat
