@@ -131,8 +131,12 @@ pub extern "C" fn balsaeuchre_open_ports(
 ) -> u32
     ensures made { result ≡ 0 → (opened : LibraryDesk) × (cores : List DeskPort)
         × IsNewDesk threads.now opened cores }
+    ensures room { result ≡ 0 → length threads.now ≤ length ports.old }
     ensures refused { 1 ≤ result → (errno : Errno) × (numbered ERRNOS result ≡ Some errno)
         × (NewError threads.now errno ⊎ ((errno ≡ Errno.Inval) × (length ports.old < length threads.now))) }
+
+    // On an error nothing is written.
+    ensures unchanged { 1 ≤ result → (desk.new ≡ desk.old) × (ports.new ≡ ports.old) }
 {
     if ports.len() < threads.len() {
         return u32::from(errno_number(Errno::Inval));
